@@ -1,0 +1,20 @@
+//! Values, schemas and refusals: what every layer above speaks of.
+//!
+//! A text is a list of bytes, a value is a whole number or a text, a schema is a list of named columns.
+//! It knows no file, no statement text and no plan.
+#![tactic(auto)]
+
+mod columns;
+mod refusals;
+mod text;
+mod values;
+
+pub use columns::{COLUMN_LIMIT, Column, Schema};
+pub use refusals::{
+    AMBIGUOUS, ARGUMENT_COUNT, ARGUMENT_KIND, FILE_TOO_LONG, MISFIT, MISSING_FILE, NAME_TAKEN,
+    NOT_A_TABLE, NOT_BUILT, NOT_GROUPED, Refusal, SCHEMA_DIFFERS, STORE_LIMIT, SYNTAX, TOO_MANY,
+    TOO_MANY_ROWS, UNKNOWN_COLUMN, UNKNOWN_CURSOR, UNKNOWN_PLAN, UNKNOWN_STATEMENT, UNKNOWN_TABLE,
+    WIDE, refusal_words,
+};
+pub use text::Words;
+pub use values::{Args, Kind, Value, compare};
