@@ -5,11 +5,15 @@
 #![tactic(auto)]
 
 mod columns;
+mod numbers;
+mod plain;
 mod refusals;
 mod text;
 mod values;
 
 pub use columns::{COLUMN_LIMIT, Column, Schema};
+pub use numbers::whole_number;
+pub use plain::{is_plain_name, is_reserved_word};
 pub use refusals::{
     AMBIGUOUS, ARGUMENT_COUNT, ARGUMENT_KIND, FILE_TOO_LONG, MISFIT, MISSING_FILE, NAME_TAKEN,
     NOT_A_TABLE, NOT_BUILT, NOT_GROUPED, Refusal, SCHEMA_DIFFERS, STORE_LIMIT, SYNTAX, TOO_MANY,
