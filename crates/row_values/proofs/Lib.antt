@@ -1,1 +1,2 @@
 mod WholeNumbers
+pub mod Parameters

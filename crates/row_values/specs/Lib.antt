@@ -2,4 +2,5 @@ pub mod Columns
 pub mod Numbers
 pub mod Plain
 pub mod Refusals
+pub mod Statements
 pub mod Values

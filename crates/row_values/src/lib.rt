@@ -8,6 +8,7 @@ mod columns;
 mod numbers;
 mod plain;
 mod refusals;
+mod statement;
 mod text;
 mod values;
 
@@ -19,6 +20,10 @@ pub use refusals::{
     NOT_A_TABLE, NOT_BUILT, NOT_GROUPED, Refusal, SCHEMA_DIFFERS, STORE_LIMIT, SYNTAX, TOO_MANY,
     TOO_MANY_ROWS, UNKNOWN_COLUMN, UNKNOWN_CURSOR, UNKNOWN_PLAN, UNKNOWN_STATEMENT, UNKNOWN_TABLE,
     WIDE, refusal_words,
+};
+pub use statement::{
+    CONDITION_LIMIT, ColRef, Edge, ITEM_LIMIT, Item, KEY_LIMIT, Operand, OrderKey, PLACE_LIMIT,
+    Place, Pred, SELECTIVITY_LIMIT, Test,
 };
 pub use text::Words;
 pub use values::{Args, Kind, Value, compare};
