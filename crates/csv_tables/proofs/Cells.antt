@@ -1,5 +1,5 @@
 -- The one cell of a record.
-use Rattle.std.proofs.Common.{ℕ, ◌≡◌, ◌∙◌, List, [], ◌∷◌, length, ◌++◌, ◌+◌, ◌<◌, suc, map, drop, get_or, drop-cons, add-one, append_assoc, Bool, true, false, Option, Some, None, refl, ap, arith, sym, if◌then◌else◌, cond}
+use Rattle.std.proofs.Common.{ℕ, ◌≡◌, ◌∙◌, List, [], ◌∷◌, length, ◌++◌, ◌+◌, ◌<◌, suc, map, drop, get_or, drop-cons, add-one, append_assoc, Bool, true, false, Option, Some, None, refl, ap, arith, sym}
 use Rattle.std.specs.Str.{IsUtf8, is_utf8}
 use Rattle.std.proofs.lemmas.Str.{IsUtf8-from_is_utf8, is_utf8-from_IsUtf8}
 use Rattle.csv.specs.Records.{Row, field_at, fields_of}

@@ -1,5 +1,5 @@
 -- The table that the records of a file spell: one column of whole numbers under a plain name.
-use Rattle.std.specs.Prelude.{ℕ, ◌≡◌, ◌&&◌, List, [], ◌∷◌, map, Option, Some, None, if◌then◌else◌}
+use Rattle.std.specs.Prelude.{ℕ, ◌≡◌, List, [], ◌∷◌, map, Option, Some, None, if◌then◌else◌}
 use Rattle.std.specs.Option.{option_map, option_and_then}
 use Rattle.std.specs.Str.{is_utf8}
 use Rattle.csv.specs.Reading.{AreRecords, default_config, strip_bom}
@@ -8,7 +8,7 @@ use Rattle.row_values.specs.Numbers.{whole_number_of}
 use Rattle.row_values.specs.Plain.{is_plain}
 use Rattle.row_values.specs.declared.columns.Column.{Column}
 use Rattle.row_values.specs.declared.values.Value.{Value}
-use Rattle.row_values.specs.declared.values.Value.TheVariants.{Int, Text}
+use Rattle.row_values.specs.declared.values.Value.TheVariants.{Int}
 use Rattle.row_values.specs.declared.values.Kind.TheVariants as kind
 
 -- what a table holds

@@ -1,5 +1,5 @@
-use Rattle.std.proofs.Common.{◌≡◌, ◌∙◌, List, ℕ, [], ◌∷◌, Some, None, sym, ap, rules}
-use Rattle.csv.specs.Records.{fields_of, field_at}
+use Rattle.std.proofs.Common.{◌≡◌, ◌∙◌, [], ◌∷◌, Some, sym, ap, rules}
+use Rattle.csv.specs.Records.{fields_of}
 use Rattle.csv_tables.specs.Tables.{only_cell}
 use Rattle.csv_tables.proofs.Cells.{one_field, no_field, text_cell, byte_cell}
 use Rattle.csv_tables.proofs.only_cell.Goals as goal

@@ -1,7 +1,5 @@
-use Rattle.std.proofs.Common.{◌≡◌, ◌∙◌, ◌++◌, ◌∷◌, [], List, Some, sym, ap, arith, rules, refl, map}
-use Rattle.std.specs.Option.{option_map}
+use Rattle.std.proofs.Common.{◌≡◌, ◌∙◌, ◌++◌, ◌∷◌, [], sym, arith, rules, map}
 use Rattle.csv.specs.Records.{fields_of}
-use Rattle.row_values.specs.declared.values.Value.{Value}
 use Rattle.csv_tables.specs.Tables.{values_in}
 use Rattle.csv_tables.proofs.Cells.{begun, next_value, no_value}
 use Rattle.csv_tables.proofs.values_in.Goals as goal
