@@ -1,0 +1,52 @@
+-- The report: how each reply is spelled.
+use Rattle.std.specs.Prelude.{ℕ, List, [], ◌∷◌, ◌++◌, codes, length, ◌==◌, if◌then◌else◌, unwrap_or}
+use Rattle.std.specs.Fmt.{decimal}
+use Rattle.row_values.specs.Refusals.{refusal_words}
+use Rattle.row_values.specs.declared.refusals.Refusal.{Refusal}
+use Rattle.script_report.specs.declared.replies.Execution.{Execution}
+use Rattle.script_report.specs.declared.replies.Reply.{Reply}
+use Rattle.script_report.specs.declared.replies.Reply.TheVariants.{Loaded, Prepared, Ran, Refused, Spent}
+
+-- `L loaded T rows R columns K`
+abbrev pub loaded_text : ℕ → List ℕ → ℕ → ℕ → List ℕ
+loaded_text line table rows columns =
+    decimal line ++ (codes " loaded " ++ (table ++ (codes " rows " ++ (decimal rows ++ (codes " columns " ++ (decimal columns ++ codes "\n"))))))
+
+-- `L prepared NAME tables M predicates K parameters J`
+abbrev pub prepared_text : ℕ → List ℕ → ℕ → ℕ → ℕ → List ℕ
+prepared_text line name tables predicates parameters =
+    decimal line ++ (codes " prepared " ++ (name ++ (codes " tables " ++ (decimal tables ++ (codes " predicates " ++ (decimal predicates ++ (codes " parameters " ++ (decimal parameters ++ codes "\n"))))))))
+
+-- `L ran NAME execution E`, then the plan, its cost, and the selectivity
+abbrev pub execution_text : ℕ → Execution → List ℕ
+execution_text line e =
+    decimal line ++ (codes " ran " ++ (e.name ++ (codes " execution " ++ (decimal e.number ++ (codes "\nplan " ++ (e.spelled ++ (codes "\ncost " ++ (decimal e.cost ++ (codes "\nat " ++ (decimal e.at ++ codes "\n"))))))))))
+
+-- a line for each row
+abbrev pub lines_text : List (List ℕ) → List ℕ
+lines_text [] = []
+lines_text (row ∷ rows) = (row ++ codes "\n") ++ lines_text rows
+
+-- `end R`
+abbrev pub end_text : ℕ → List ℕ
+end_text count = codes "end " ++ (decimal count ++ codes "\n")
+
+abbrev pub ran_text : ℕ → Execution → List (List ℕ) → List ℕ
+ran_text line e rows = (execution_text line e ++ lines_text rows) ++ end_text (length rows)
+
+-- a space and what is shown, where something is
+abbrev pub shown_text : List ℕ → List ℕ
+shown_text shown = if length shown == 0 then codes "\n" else codes " " ++ (shown ++ codes "\n")
+
+-- `L refused C WORDS SHOWN`
+abbrev pub refused_text : ℕ → Refusal → List ℕ
+refused_text line refusal =
+    decimal line ++ (codes " refused " ++ (decimal refusal.code ++ (codes " " ++ (unwrap_or (refusal_words refusal.code) [] ++ shown_text refusal.shown))))
+
+-- the lines of a reply to the line of this number
+abbrev pub reply_text : ℕ → Reply → List ℕ
+reply_text line (Loaded table rows columns) = loaded_text line table rows columns
+reply_text line (Prepared name tables predicates parameters) = prepared_text line name tables predicates parameters
+reply_text line (Ran execution rows) = ran_text line execution rows
+reply_text line (Refused refusal) = refused_text line refusal
+reply_text line Spent = []

@@ -1,0 +1,12 @@
+//! The script language and the report: what a line says, and how a reply is spelled.
+//!
+//! `read_line` turns a line into a command, `reply_text` a reply into its lines of the report. Both are exact: their
+//! words are `reading_of` and `reply_text` of `specs/`. They know neither tables nor statements that are kept.
+//! To add a command, add its variant, its case of `command_in` in both places, and its reply.
+#![tactic(auto)]
+
+mod commands;
+mod replies;
+
+pub use commands::{Command, LineFault, read_line};
+pub use replies::{Execution, Lines, Reply, reply_text};
