@@ -1,0 +1,4 @@
+pub mod Meaning
+pub mod Run
+pub mod State
+pub mod Step

@@ -1,0 +1,44 @@
+-- What the statement `SELECT c FROM t WHERE c < ?` means over a table of one column of whole numbers, and what it costs.
+use Rattle.std.specs.Prelude.{ℕ, ℤ, ◌*◌, max, List, [], ◌∷◌, ◌++◌, filter, length, codes, Bool, false, Option, Some, None}
+use Rattle.std.specs.Fmt.{decimal, signed_decimal}
+use Rattle.std.specs.Ordering.{int_cmp, is_lt}
+use Rattle.row_values.specs.declared.values.Value.{Value}
+use Rattle.row_values.specs.declared.values.Value.TheVariants.{Int, Text}
+use Rattle.csv_tables.specs.Tables.{Content}
+use Rattle.session_model.specs.declared.TheConstants.{COST_SCALE}
+
+-- a row of one number meets the predicate where the number is below the argument
+abbrev pub is_below : ℤ → List Value → Bool
+is_below argument [] = false
+is_below argument (Int n ∷ []) = is_lt (int_cmp n argument)
+is_below argument (Int n ∷ other ∷ values) = false
+is_below argument (Text bytes ∷ values) = false
+
+-- the rows that meet the predicate, in the order of the table
+abbrev pub meaning_of : Content → ℤ → List (List Value)
+meaning_of table argument = filter (is_below argument) table.rows
+
+-- a row line, without its end
+abbrev pub row_line : List Value → List ℕ
+row_line [] = codes "row "
+row_line (Int n ∷ values) = codes "row " ++ signed_decimal n
+row_line (Text bytes ∷ values) = codes "row " ++ bytes
+
+-- the one plan: a sequential scan of the table
+abbrev pub plan_text : List ℕ → List ℕ
+plan_text table = codes "rows(seq(" ++ (table ++ codes "))")
+
+-- its cost: reading each row, one at least
+abbrev pub cost_of : Content → ℕ
+cost_of table = COST_SCALE * max 1 (length table.rows)
+
+-- the selectivity of the predicate: how many rows meet it, one at least
+abbrev pub selectivity_of : List (List Value) → ℕ
+selectivity_of rows = max 1 (length rows)
+
+-- the one number among the arguments
+abbrev pub only_number : List Value → Option ℤ
+only_number [] = None
+only_number (Int n ∷ []) = Some n
+only_number (Int n ∷ other ∷ values) = None
+only_number (Text bytes ∷ values) = None

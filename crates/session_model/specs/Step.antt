@@ -1,0 +1,103 @@
+-- What one line may answer, and what it leaves.
+use Rattle.std.specs.Prelude.{ℕ, ℤ, ◌≡◌, ◌+◌, ◌&&◌, nat_lt, nat_le, List, [], ◌∷◌, ◌++◌, length, map, Bool, is_some, MatchBool, Option, Some, None, MatchOption, if◌then◌else◌}
+use Rattle.std.specs.Option.{option_map}
+use Rattle.outside_model.specs.declared.TheConstants.{FILE_LIMIT}
+use Rattle.outside_model.specs.Files.{Files, up_to}
+use Rattle.row_values.specs.Columns.{is_name_in}
+use Rattle.row_values.specs.declared.refusals.TheConstants.{SYNTAX, UNKNOWN_TABLE, MISSING_FILE, NOT_BUILT}
+use Rattle.row_values.specs.declared.values.Value.{Value}
+use Rattle.csv_tables.specs.Tables.{Content, IsFileOf}
+use Rattle.sql_parser.specs.declared.statement.Select.{Select}
+use Rattle.script_report.specs.Commands.{Reading, Silent, Says, Bad}
+use Rattle.script_report.specs.declared.commands.Command.{Command}
+use Rattle.script_report.specs.declared.commands.Command.TheVariants.{Load, Prepare, Run, NotBuilt}
+use Rattle.script_report.specs.declared.replies.Reply.{Reply}
+use Rattle.script_report.specs.declared.replies.Reply.TheVariants as reply
+use Rattle.session_model.specs.declared.TheConstants.{TABLE_LIMIT, STATEMENT_LIMIT, HELD_CELL_LIMIT, HELD_BYTE_LIMIT, ROW_LIMIT, RESULT_LIMIT}
+use Rattle.session_model.specs.State.{State, TableState, StatementState, find_table, find_statement, cells_held, bytes_held}
+use Rattle.session_model.specs.Meaning.{meaning_of, row_line, plan_text, cost_of, selectivity_of, only_number}
+
+-- the line is turned down: the reply says why, and nothing changes
+pub record Refuses (code : ℕ) (shown : List ℕ) (old : State) (answer : Reply) (new : State) : Type 0 where
+  pub says : answer ≡ reply.Refused (record { code = code; shown = shown })
+  pub unchanged : new ≡ old
+
+-- the table is kept behind the others
+pub record Loads (old : State) (name bytes : List ℕ) (content : Content) (answer : Reply) (new : State) : Type 0 where
+  pub says : answer ≡ reply.Loaded name (length content.rows) (length content.schema)
+  pub keeps : new ≡ record old { tables = old.tables ++ (record { name = name; content = content; bytes = length bytes }) ∷ [] }
+
+-- the limits allow one more table of these rows and of a file of this length
+abbrev pub has_room : List TableState → Content → ℕ → Bool
+has_room tables content bytes =
+    nat_le (length content.rows) ROW_LIMIT && nat_lt (length tables) TABLE_LIMIT
+    && nat_le (cells_held tables + length content.rows) HELD_CELL_LIMIT && nat_le (bytes_held tables + bytes) HELD_BYTE_LIMIT
+
+-- `load T FILE` with the file's bytes: it isn't too long, spells a table, and there is room
+abbrev pub ReadStep : State → List ℕ → List ℕ → Reply → State → Type 0
+ReadStep old name bytes answer new =
+    MatchBool (nat_le (length bytes) FILE_LIMIT)
+    ((content : Option Content) × IsFileOf bytes content
+    × MatchOption content (Refuses NOT_BUILT [] old answer new)
+    (λ table. MatchBool (has_room old.tables table (length bytes)) (Loads old name bytes table answer new) (Refuses NOT_BUILT [] old answer new)))
+    (Refuses NOT_BUILT [] old answer new)
+
+-- `load T FILE`: T isn't loaded yet, and the file is there
+abbrev pub LoadStep : State → List ℕ → Option (List ℕ) → Reply → State → Type 0
+LoadStep old name file answer new =
+    MatchBool (is_some (find_table old.tables name)) (Refuses NOT_BUILT [] old answer new)
+    (MatchOption file (Refuses MISSING_FILE [] old answer new) (λ bytes. ReadStep old name bytes answer new))
+
+-- the statement is kept behind the others
+pub record Prepares (old : State) (name table : List ℕ) (answer : Reply) (new : State) : Type 0 where
+  pub says : answer ≡ reply.Prepared name 1 1 1
+  pub keeps : new ≡ record old { statements = old.statements ++ (record { name = name; table = table }) ∷ [] }
+
+-- both columns of the statement are columns of the table
+abbrev pub are_columns : Select → Content → Bool
+are_columns select table = is_name_in select.column table.schema && is_name_in select.tested table.schema
+
+-- `prepare NAME SELECT ..`: NAME isn't taken, there is room, and the table and its columns are there
+abbrev pub PrepareStep : State → List ℕ → Select → Reply → State → Type 0
+PrepareStep old name select answer new =
+    MatchBool (is_some (find_statement old.statements name)) (Refuses NOT_BUILT [] old answer new)
+    (MatchBool (nat_lt (length old.statements) STATEMENT_LIMIT)
+    (MatchOption (find_table old.tables select.table) (Refuses UNKNOWN_TABLE select.table old answer new)
+    (λ table. MatchBool (are_columns select table) (Prepares old name select.table answer new) (Refuses NOT_BUILT [] old answer new)))
+    (Refuses NOT_BUILT [] old answer new))
+
+-- the statement is executed: the reply has its plan, the cost of that, its selectivity and the rows that it means
+pub record Executes (old : State) (name table : List ℕ) (content : Content) (rows : List (List Value)) (answer : Reply) (new : State) : Type 0 where
+  pub says : answer ≡ reply.Ran (record { name = name; number = old.executions + 1; spelled = plan_text table; cost = cost_of content; at = selectivity_of rows }) (map row_line rows)
+  pub counts : new ≡ record old { executions = old.executions + 1 }
+
+-- `run NAME N`: NAME is prepared, there is one argument, and the rows are few enough
+abbrev pub RunStep : State → List ℕ → List Value → Reply → State → Type 0
+RunStep old name args answer new =
+    MatchOption (find_statement old.statements name) (Refuses NOT_BUILT [] old answer new)
+    (λ table. MatchOption (find_table old.tables table) (Refuses NOT_BUILT [] old answer new)
+    (λ content. MatchOption (only_number args) (Refuses NOT_BUILT [] old answer new)
+    (λ argument. MatchBool (nat_le (length (meaning_of content argument)) RESULT_LIMIT)
+    (Executes old name table content (meaning_of content argument) answer new) (Refuses NOT_BUILT [] old answer new))))
+
+-- what a command may answer, with the file that it asks for
+abbrev pub CommandStep : State → Command → Option (List ℕ) → Reply → State → Type 0
+CommandStep old (Load table name) file answer new = LoadStep old table file answer new
+CommandStep old (Prepare name select) file answer new = PrepareStep old name select answer new
+CommandStep old (Run name args) file answer new = RunStep old name args answer new
+CommandStep old NotBuilt file answer new = Refuses NOT_BUILT [] old answer new
+
+-- what a line may answer, by what it says
+unfoldable pub Step : State → Reading → Option (List ℕ) → Reply → State → Type 0
+Step old Silent file answer new = ⊥
+Step old (Says command) file answer new = CommandStep old command file answer new
+Step old Bad file answer new = Refuses SYNTAX [] old answer new
+
+-- the file that a line asks for: that of a load of a table that isn't loaded
+abbrev pub file_for : State → Files → Reading → Option (List ℕ)
+file_for old files Silent = None
+file_for old files Bad = None
+file_for old files (Says (Load table name)) = if is_some (find_table old.tables table) then None else option_map (up_to FILE_LIMIT) (files name)
+file_for old files (Says (Prepare name select)) = None
+file_for old files (Says (Run name args)) = None
+file_for old files (Says NotBuilt) = None
