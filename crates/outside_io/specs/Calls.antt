@@ -27,7 +27,7 @@ pub record Fetches (files : Option Files) (name : List ℕ) (limit : ℕ) (old_f
 -- what is taken after a put of these bytes
 abbrev pub Takes : List ℕ → Put → List ℕ → List ℕ → Type 0
 Takes old put.Whole bytes new = new ≡ old ++ bytes
-Takes old put.Failed bytes new = (count : ℕ) × (count ≤ length bytes) × (new ≡ old ++ take count bytes)
+Takes old put.Failed bytes new = (count : ℕ) × (new ≡ old ++ take count bytes)
 Takes old put.Memory bytes new = new ≡ old
 
 -- a put: the bytes behind those before, and a failure with its cause

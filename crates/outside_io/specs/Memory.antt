@@ -1,11 +1,12 @@
 -- Shelves and sinks in memory, as plain values: which bytes stand under a name, which calls fail, and what a call leaves.
-use Rattle.std.specs.Prelude.{ℕ, ◌+◌, ◌==◌, List, min, length, Option, Some, None}
-use Rattle.std.specs.List.{find}
+use Rattle.std.specs.Prelude.{ℕ, ◌≡◌, ◌+◌, ◌==◌, min, Bool, if◌then◌else◌, List, [], ◌∷◌, ◌++◌, take, Option, Some, None}
+use Rattle.std.specs.List.{find, list_any}
 use Rattle.std.specs.Option.{option_map}
 use Rattle.std.specs.Str.{bytes_eq}
 use Rattle.outside_model.specs.Causes.{last_count}
 use Rattle.outside_io.specs.declared.Fetched.{Fetched}
 use Rattle.outside_io.specs.declared.Fetched.TheVariants as fetched
+use Rattle.outside_io.specs.declared.memory.FailingPut.{FailingPut}
 use Rattle.outside_io.specs.declared.Put.{Put}
 use Rattle.outside_io.specs.declared.Put.TheVariants as put
 
@@ -13,11 +14,6 @@ use Rattle.outside_io.specs.declared.Put.TheVariants as put
 pub record Named : Type 0 where
   pub name : List ℕ
   pub bytes : List ℕ
-
--- a put that is to fail, and how many bytes it takes before
-pub record FailingPut : Type 0 where
-  pub call : ℕ
-  pub takes : ℕ
 
 -- a shelf in memory
 pub record ShelfInMemory : Type 0 where
@@ -43,13 +39,17 @@ pub record SinkInMemory : Type 0 where
 abbrev pub one_more : ℕ → ℕ
 one_more count = min (count + 1) last_count
 
+-- whether a file has this name
+abbrev pub has_name : List ℕ → Named → Bool
+has_name name file = bytes_eq file.name name
+
 -- the bytes that stand under a name
 abbrev pub bytes_at : List Named → List ℕ → Option (List ℕ)
-bytes_at files name = option_map (λ file. file.bytes) (find (λ file. bytes_eq file.name name) files)
+bytes_at files name = option_map (λ file. file.bytes) (find (has_name name) files)
 
--- how many bytes this put takes before it fails, where it is to fail
-abbrev pub takes_at : List FailingPut → ℕ → Option ℕ
-takes_at failing call = option_map (λ one. one.takes) (find (λ one. one.call == call) failing)
+-- whether this call is to fail
+abbrev pub fails_at : List ℕ → ℕ → Bool
+fails_at failing call = list_any (λ failing_call. failing_call == call) failing
 
 -- a shelf after a fetch that answered this
 abbrev pub after_fetch : ShelfInMemory → Fetched → ShelfInMemory
@@ -57,3 +57,36 @@ after_fetch shelf fetched.Got = record shelf { calls = one_more shelf.calls }
 after_fetch shelf fetched.Missing = record shelf { calls = one_more shelf.calls; misses = one_more shelf.misses }
 after_fetch shelf fetched.Failed = record shelf { calls = one_more shelf.calls; faults = one_more shelf.faults }
 after_fetch shelf fetched.Memory = record shelf { calls = one_more shelf.calls }
+
+-- the same of a shelf that never fails
+abbrev pub after_sure_fetch : SureFiles → Fetched → SureFiles
+after_sure_fetch shelf fetched.Got = shelf
+after_sure_fetch shelf fetched.Missing = record shelf { misses = one_more shelf.misses }
+after_sure_fetch shelf fetched.Failed = shelf
+after_sure_fetch shelf fetched.Memory = shelf
+
+-- how many bytes this put takes before it fails, where it is to fail: what was set last counts
+abbrev pub takes_at : List FailingPut → ℕ → Option ℕ
+takes_at [] call = None
+takes_at (one ∷ earlier) call = if one.call == call then Some one.takes else takes_at earlier call
+
+-- a put that takes this many bytes before it fails, or is not to fail, answers this and leaves these bytes
+abbrev pub Ends : Option ℕ → List ℕ → List ℕ → Put → List ℕ → Type 0
+Ends None old bytes put.Whole new = new ≡ old ++ bytes
+Ends None old bytes put.Failed new = ⊥
+Ends (Some count) old bytes put.Whole new = ⊥
+Ends (Some count) old bytes put.Failed new = new ≡ old ++ take count bytes
+Ends end old bytes put.Memory new = new ≡ old
+
+-- the count of faults after a put that answered this
+abbrev pub faults_after : ℕ → Put → ℕ
+faults_after faults put.Whole = faults
+faults_after faults put.Failed = one_more faults
+faults_after faults put.Memory = faults
+
+-- a put into memory: it fails exactly where it is to fail, unless memory is short
+pub record PutsInMemory (old new : SinkInMemory) (result : Put) (bytes : List ℕ) : Type 0 where
+  pub ends : Ends (takes_at old.failing (one_more old.calls)) old.taken bytes result new.taken
+  pub counted : new.calls ≡ one_more old.calls
+  pub faults : new.faults ≡ faults_after old.faults result
+  pub failing : new.failing ≡ old.failing

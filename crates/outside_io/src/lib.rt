@@ -16,7 +16,7 @@ use std::alloc::Global;
 
 mod memory;
 
-pub use memory::MemShelf;
+pub use memory::{MemShelf, MemSink, SureShelf, SureSink};
 
 /// How a fetch ended.
 #[derive(Clone, Copy, Debug, PartialEq, Eq)]
