@@ -1,11 +1,10 @@
 -- Shelves and sinks in memory, as plain values: which bytes stand under a name, which calls fail, and what a call leaves.
-use Rattle.std.specs.Prelude.{ℕ, ◌≡◌, ◌+◌, ◌==◌, min, Bool, if◌then◌else◌, List, [], ◌∷◌, ◌++◌, take, Option, Some, None}
+use Rattle.std.specs.Prelude.{ℕ, ◌≡◌, ◌==◌, Bool, if◌then◌else◌, List, [], ◌∷◌, ◌++◌, take, Option, Some, None}
 use Rattle.std.specs.List.{find, list_any}
 use Rattle.std.specs.Option.{option_map}
 use Rattle.std.specs.Str.{bytes_eq}
-use Rattle.outside_model.specs.Causes.{last_count}
+use Rattle.outside_io.specs.Calls.{one_more, faults_after, misses_after, faults_after_put}
 use Rattle.outside_io.specs.declared.Fetched.{Fetched}
-use Rattle.outside_io.specs.declared.Fetched.TheVariants as fetched
 use Rattle.outside_io.specs.declared.memory.FailingPut.{FailingPut}
 use Rattle.outside_io.specs.declared.Put.{Put}
 use Rattle.outside_io.specs.declared.Put.TheVariants as put
@@ -35,10 +34,6 @@ pub record SinkInMemory : Type 0 where
   pub calls : ℕ
   pub faults : ℕ
 
--- the count after one more, which stays at its end
-abbrev pub one_more : ℕ → ℕ
-one_more count = min (count + 1) last_count
-
 -- whether a file has this name
 abbrev pub has_name : List ℕ → Named → Bool
 has_name name file = bytes_eq file.name name
@@ -53,17 +48,7 @@ fails_at failing call = list_any (λ failing_call. failing_call == call) failing
 
 -- a shelf after a fetch that answered this
 abbrev pub after_fetch : ShelfInMemory → Fetched → ShelfInMemory
-after_fetch shelf fetched.Got = record shelf { calls = one_more shelf.calls }
-after_fetch shelf fetched.Missing = record shelf { calls = one_more shelf.calls; misses = one_more shelf.misses }
-after_fetch shelf fetched.Failed = record shelf { calls = one_more shelf.calls; faults = one_more shelf.faults }
-after_fetch shelf fetched.Memory = record shelf { calls = one_more shelf.calls }
-
--- the same of a shelf that never fails
-abbrev pub after_sure_fetch : SureFiles → Fetched → SureFiles
-after_sure_fetch shelf fetched.Got = shelf
-after_sure_fetch shelf fetched.Missing = record shelf { misses = one_more shelf.misses }
-after_sure_fetch shelf fetched.Failed = shelf
-after_sure_fetch shelf fetched.Memory = shelf
+after_fetch shelf result = record shelf { calls = one_more shelf.calls; faults = faults_after shelf.faults result; misses = misses_after shelf.misses result }
 
 -- how many bytes this put takes before it fails, where it is to fail: what was set last counts
 abbrev pub takes_at : List FailingPut → ℕ → Option ℕ
@@ -78,15 +63,9 @@ Ends (Some count) old bytes put.Whole new = ⊥
 Ends (Some count) old bytes put.Failed new = new ≡ old ++ take count bytes
 Ends end old bytes put.Memory new = new ≡ old
 
--- the count of faults after a put that answered this
-abbrev pub faults_after : ℕ → Put → ℕ
-faults_after faults put.Whole = faults
-faults_after faults put.Failed = one_more faults
-faults_after faults put.Memory = faults
-
 -- a put into memory: it fails exactly where it is to fail, unless memory is short
 pub record PutsInMemory (old new : SinkInMemory) (result : Put) (bytes : List ℕ) : Type 0 where
   pub ends : Ends (takes_at old.failing (one_more old.calls)) old.taken bytes result new.taken
   pub counted : new.calls ≡ one_more old.calls
-  pub faults : new.faults ≡ faults_after old.faults result
+  pub faults : new.faults ≡ faults_after_put old.faults result
   pub failing : new.failing ≡ old.failing

@@ -14,8 +14,10 @@ ghost use Rattle.outside_io.specs.Calls.{Fetches, Puts};
 
 use std::alloc::Global;
 
+mod host;
 mod memory;
 
+pub use host::{FileShelf, OutSink};
 pub use memory::{MemShelf, MemSink, SureShelf, SureSink};
 
 /// How a fetch ended.

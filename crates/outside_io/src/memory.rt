@@ -7,8 +7,8 @@ ghost use Rattle.std.specs.Prelude.{◌≡◌, ◌≢◌, ◌+◌, ◌<◌, ◌�
 ghost use Rattle.std.specs.List.{position};
 ghost use Rattle.std.specs.Option.{option_map};
 ghost use Rattle.outside_model.specs.Files.{up_to};
-ghost use Rattle.outside_io.specs.Calls.{Gives, Fetches, Puts};
-ghost use Rattle.outside_io.specs.Memory.{has_name, bytes_at, takes_at, fails_at, after_fetch, after_sure_fetch, PutsInMemory};
+ghost use Rattle.outside_io.specs.Calls.{Gives, Fetches, Puts, misses_after};
+ghost use Rattle.outside_io.specs.Memory.{has_name, bytes_at, takes_at, fails_at, after_fetch, PutsInMemory};
 
 use crate::{Fetched, Put, Shelf, Sink};
 use std::alloc::{AllocError, Global};
@@ -182,7 +182,7 @@ impl Shelf for MemShelf {
         ensures fetches { Fetches (Some (bytes_at self.old.files)) name.now limit self.old.faults self.new.faults self.old.misses self.new.misses result into.new.items }
         ensures files { self.new.files ≡ self.old.files }
         ensures fails { IsTrue (fails_at self.old.failing self.new.calls) ↔ (result ≡ Fetched.Failed) }
-        ensures after { self.new ≡ after_fetch self.old result }
+        ensures counted { self.new ≡ after_fetch self.old result }
     {
         self.calls = self.calls.saturating_add(1);
         if self.failing.as_slice().contains(&self.calls) {
@@ -251,7 +251,7 @@ impl Shelf for SureShelf {
         requires { limit < usize.MAX }
         ensures fetches { Fetches (Some (bytes_at self.old.files)) name.now limit 0 0 self.old.misses self.new.misses result into.new.items }
         ensures files { self.new.files ≡ self.old.files }
-        ensures after { self.new ≡ after_sure_fetch self.old result }
+        ensures counted { self.new.misses ≡ misses_after self.old.misses result }
     {
         let fetched = fetch_from(self.files.as_slice(), name, limit, into);
         if fetched == Fetched::Missing {
