@@ -16,28 +16,6 @@ appends_more (Some xs) (Some ys) None bytes at count so_far more = absurd more
 appends_more (Some xs) (Some ys) (Some zs) bytes at count so_far more =
     more ∙ ap (λ l. l ++ take count (drop at bytes)) so_far ∙ append_assoc xs _ _ ∙ ap (λ l. xs ++ l) (sym (take-add at count bytes))
 
--- a failure after the first bytes
-pub takes_failed : (old now next : Option (List ℕ)) (bytes : List ℕ) (at : ℕ) → Appends old now (take at bytes) → Keeps now next → TakesTold old next put.Failed bytes
-takes_failed None now next bytes at so_far kept = tt
-takes_failed (Some xs) None next bytes at so_far kept = absurd so_far
-takes_failed (Some xs) (Some ys) None bytes at so_far kept = absurd kept
-takes_failed (Some xs) (Some ys) (Some zs) bytes at so_far kept = (zs, refl, (at, kept ∙ so_far))
-
--- the end, after all bytes
-pub takes_whole : (old now next : Option (List ℕ)) (bytes : List ℕ) → Appends old now bytes → Keeps now next → TakesTold old next put.Whole bytes
-takes_whole None now next bytes so_far kept = tt
-takes_whole (Some xs) None next bytes so_far kept = absurd so_far
-takes_whole (Some xs) (Some ys) None bytes so_far kept = absurd kept
-takes_whole (Some xs) (Some ys) (Some zs) bytes so_far kept = (zs, refl, kept ∙ so_far)
-
--- one read more
-pub consumes_more : (old now next : Option (List ℕ)) (got more : List ℕ) → Consumes old now got → Consumes now next more → Consumes old next (got ++ more)
-consumes_more None now next got more so_far then = tt
-consumes_more (Some xs) None next got more so_far then = absurd so_far
-consumes_more (Some xs) (Some ys) None got more so_far then = absurd then
-consumes_more (Some xs) (Some ys) (Some zs) got more so_far then =
-    so_far ∙ ap (λ l. got ++ l) then ∙ sym (append_assoc got more zs)
-
 -- enough is read: one byte more than the limit
 pub up_to-enough : (old now : Option (List ℕ)) (got : List ℕ) (limit : ℕ) → Consumes old now got → length got ≡ limit + 1 → Told old (λ bytes. got ≡ up_to limit bytes)
 unfolding up_to

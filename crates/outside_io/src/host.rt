@@ -15,6 +15,9 @@ use std::marker::Model;
 use std::rt::Files;
 use std::{fs, io};
 
+#[cfg(test)]
+mod tests;
+
 /// The most bytes of one read.
 const READ_SIZE: usize = 1 << 14;
 

@@ -14,6 +14,9 @@ use crate::{Fetched, Put, Shelf, Sink};
 use std::alloc::{AllocError, Global};
 use std::marker::Model;
 
+#[cfg(test)]
+mod tests;
+
 /// A file and its name.
 #[derive(Debug, Drop)]
 struct File {
