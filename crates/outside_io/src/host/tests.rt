@@ -7,51 +7,41 @@ use std::io::{ErrorKind, Write};
 use std::test::Fail;
 use std::{fs, io};
 
-/// Fetches through the trait.
-fn fetched<F: Shelf>(
-    shelf: &mut F,
+/// Whether a fetch, into a list that holds something before, answers this and gives these bytes.
+fn gives(
     alloc: Global,
+    shelf: &mut FileShelf<HostRuntime>,
     name: &str,
-    limit: u8,
-    into: &mut Vec<u8>,
-) -> Fetched {
-    shelf.fetch(alloc, name, usize::from(limit), into)
+    (answer, bytes): (Fetched, &str),
+) -> Result<bool, Fail> {
+    let mut into = Vec::from_slice(alloc, b"left")?;
+    let found = shelf.fetch(alloc, name, 2, &mut into);
+    Ok(found == answer && into.as_slice() == bytes.as_bytes())
 }
 
 #[test]
 fn the_system_gives_files_and_tells_why_not(rt: HostRuntime) -> Result<(), Fail> {
-    let alloc = rt.alloc();
-    let name = "outside_io_test.txt";
-    fs::write(&rt, name, "abcde")?;
+    fs::write(&rt, "four.txt", "abcd")?;
+    fs::write(&rt, "two.txt", "ab")?;
     let cases = [
-        ("a file, cut", name, 2, Fetched::Got, "abc"),
-        ("a file, whole", name, 99, Fetched::Got, "abcde"),
-        (
-            "no such file",
-            "outside_io_none.txt",
-            9,
-            Fetched::Missing,
-            "",
-        ),
-        ("a folder", ".", 9, Fetched::Failed, ""),
-        (
-            "a path through a file",
-            "outside_io_test.txt/a",
-            9,
-            Fetched::Failed,
-            "",
-        ),
-        ("a name with a zero byte", "a\0b", 9, Fetched::Failed, ""),
+        ("a file is cut", "four.txt", Fetched::Got, "abc"),
+        ("a file is whole", "two.txt", Fetched::Got, "ab"),
+        ("no such file", "none.txt", Fetched::Missing, ""),
+        ("a folder", ".", Fetched::Failed, ""),
+        ("a path through a file", "two.txt/a", Fetched::Failed, ""),
+        ("a name with a zero byte", "a\0b", Fetched::Failed, ""),
     ];
     let mut shelf = FileShelf::new(rt.clone()?);
-    for (what, name, limit, answer, bytes) in cases {
-        let mut into = Vec::from_slice(alloc, b"left")?;
-        let found = fetched(&mut shelf, alloc, name, limit, &mut into);
-        assert_eq!(rt; found, answer, "{what}");
-        assert_eq!(rt; into.as_slice(), bytes.as_bytes(), "{what}");
+    for (what, name, answer, bytes) in cases {
+        assert!(rt;
+            gives(rt.alloc(), &mut shelf, name, (answer, bytes))?,
+            "{what}"
+        );
     }
-    assert_eq!(rt; (shelf.faults, shelf.misses), (3, 1));
-    fs::remove_file(&rt, name)?;
+    assert_eq!(rt; shelf.misses, 1);
+    assert_eq!(rt; shelf.faults, 3);
+    fs::remove_file(&rt, "four.txt")?;
+    fs::remove_file(&rt, "two.txt")?;
     Ok(())
 }
 
@@ -77,18 +67,15 @@ impl Write for Narrow {
     }
 }
 
+/// Puts five bytes into a writer with this room.
+fn put_of_five(room: usize, breaks: bool) -> (Put, u64) {
+    let mut sink = OutSink::new(Narrow { room, breaks });
+    (sink.put(b"abcde"), sink.faults)
+}
+
 #[test]
-fn a_writer_that_takes_nothing_or_fails_is_a_fault(rt: HostRuntime) -> Result<(), Fail> {
-    let cases = [
-        ("room for all", 5, false, Put::Whole, 0),
-        ("it takes no more", 4, false, Put::Failed, 1),
-        ("it breaks", 4, true, Put::Failed, 1),
-        ("it is full from the start", 0, false, Put::Failed, 1),
-    ];
-    for (what, room, breaks, answer, faults) in cases {
-        let mut sink = OutSink::new(Narrow { room, breaks });
-        assert_eq!(rt; sink.put(b"abcde"), answer, "{what}");
-        assert_eq!(rt; sink.faults, faults, "{what}");
-    }
-    Ok(())
+fn a_writer_that_takes_nothing_or_fails_is_a_fault(rt: HostRuntime) {
+    assert_eq!(rt; put_of_five(5, false), (Put::Whole, 0));
+    assert_eq!(rt; put_of_five(4, false), (Put::Failed, 1), "it takes no more");
+    assert_eq!(rt; put_of_five(4, true), (Put::Failed, 1), "it breaks");
 }
