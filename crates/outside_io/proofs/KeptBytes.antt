@@ -1,12 +1,10 @@
 -- What the loops over a writer and a reader keep: the bytes that went so far, where the other side tells them.
-use Rattle.std.proofs.Common.{ℕ, ◌≡◌, ◌≤◌, ◌<◌, ◌+◌, List, [], ◌++◌, Option, Some, None, length, take, drop, refl, sym, ap, ◌∙◌, append_assoc, append-nil, arith}
+use Rattle.std.proofs.Common.{ℕ, ◌≡◌, ◌≤◌, ◌<◌, ◌+◌, List, [], ◌++◌, Option, Some, None, length, take, drop, sym, ap, ◌∙◌, append_assoc, append-nil}
 use Rattle.std.proofs.Math.Seq.{take-add}
 use Rattle.std.proofs.Math.ListN.{drop_of_length-le}
-use Rattle.std.proofs.lemmas.List.{take_at, take-append-drop, length-append}
-use Rattle.std.specs.Io.KnownBytes.{Appends, Keeps, Consumes, IsAtEnd}
+use Rattle.std.proofs.lemmas.List.{take_at, take-append-drop}
+use Rattle.std.specs.Io.KnownBytes.{Appends, Consumes, IsAtEnd}
 use Rattle.outside_model.specs.Files.{Told, up_to}
-use Rattle.outside_io.specs.Calls.{TakesTold}
-use Rattle.outside_io.specs.declared.Put.TheVariants as put
 
 -- one write more
 pub appends_more : (old now next : Option (List ℕ)) (bytes : List ℕ) (at count : ℕ) → Appends old now (take at bytes) → Appends now next (take count (drop at bytes)) → Appends old next (take (at + count) bytes)

@@ -1,6 +1,6 @@
-use Rattle.std.proofs.Common.{◌≡◌, List, ◌++◌, [], ◌∷◌, Some, None, sym, ◌∙◌, ap}
+use Rattle.std.proofs.Common.{◌≡◌, Some, None, sym, ◌∙◌, ap}
 use Rattle.std.specs.List.{position}
-use Rattle.outside_io.specs.Memory.{has_name, bytes_at}
+use Rattle.outside_io.specs.Memory.{has_name}
 use Rattle.outside_io.proofs.Lookup.{bytes_at-written, bytes_at-written_other, bytes_at-behind, bytes_at-behind_other}
 use Rattle.outside_io.proofs.memory.give.Goals as goal
 
