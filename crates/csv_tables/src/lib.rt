@@ -4,7 +4,7 @@
 //! numbers under a plain name, with a row at least. The one way in is `read_table`.
 #![tactic(auto)]
 
-ghost use Rattle.std.specs.Prelude.{◌≡◌, ◌<◌, ◌∷◌, ◌↔◌, IsTrue, IfOk, IfErr, OnErr, length, map, slice_get, Some, None, List, ℕ};
+ghost use Rattle.std.specs.Prelude.{◌≡◌, ◌<◌, [], ◌∷◌, ◌↔◌, IsTrue, IfOk, IfErr, OnErr, length, map, slice_get, Some, None, List, ℕ};
 ghost use Rattle.csv.specs.Reading.{AreRecords, default_config, strip_bom};
 ghost use Rattle.csv.specs.Records.{fields_of};
 ghost use Rattle.csv.specs.declared.parser.State.TheVariants as st;
@@ -56,6 +56,14 @@ impl Table {
         ensures { IsTrue result ↔ (length self.now.rows ≡ 0) }
     {
         self.values.is_empty()
+    }
+
+    /// The one value of this row, counted from 0.
+    pub fn value(&self, row: usize) -> &Value
+        requires { row < length self.now.rows }
+        ensures { slice_get self.now.rows row ≡ Some (result.now ∷ []) }
+    {
+        &self.values[row]
     }
 
     /// The value in this row and column, both counted from 0.

@@ -7,22 +7,35 @@ use Rattle.row_values.specs.declared.values.Value.TheVariants.{Int, Text}
 use Rattle.csv_tables.specs.Tables.{Content}
 use Rattle.session_model.specs.declared.TheConstants.{COST_SCALE}
 
--- a row of one number meets the predicate where the number is below the argument
+-- a number is below the argument
+abbrev pub is_below_value : ℤ → Value → Bool
+is_below_value argument (Int n) = is_lt (int_cmp n argument)
+is_below_value argument (Text bytes) = false
+
+-- a row of one value meets the predicate where the value is below the argument
 abbrev pub is_below : ℤ → List Value → Bool
 is_below argument [] = false
-is_below argument (Int n ∷ []) = is_lt (int_cmp n argument)
-is_below argument (Int n ∷ other ∷ values) = false
-is_below argument (Text bytes ∷ values) = false
+is_below argument (value ∷ []) = is_below_value argument value
+is_below argument (value ∷ other ∷ values) = false
 
 -- the rows that meet the predicate, in the order of the table
 abbrev pub meaning_of : Content → ℤ → List (List Value)
 meaning_of table argument = filter (is_below argument) table.rows
 
--- a row line, without its end
+-- a row line of one value, without its end
+abbrev pub number_line : ℤ → List ℕ
+number_line n = codes "row " ++ signed_decimal n
+
+abbrev pub text_line : List ℕ → List ℕ
+text_line bytes = codes "row " ++ bytes
+
+abbrev pub value_line : Value → List ℕ
+value_line (Int n) = number_line n
+value_line (Text bytes) = text_line bytes
+
 abbrev pub row_line : List Value → List ℕ
 row_line [] = codes "row "
-row_line (Int n ∷ values) = codes "row " ++ signed_decimal n
-row_line (Text bytes ∷ values) = codes "row " ++ bytes
+row_line (value ∷ values) = value_line value
 
 -- the one plan: a sequential scan of the table
 abbrev pub plan_text : List ℕ → List ℕ

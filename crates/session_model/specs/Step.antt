@@ -33,6 +33,10 @@ has_room tables content bytes =
     nat_le (length content.rows) ROW_LIMIT && nat_lt (length tables) TABLE_LIMIT
     && nat_le (cells_held tables + length content.rows) HELD_CELL_LIMIT && nat_le (bytes_held tables + bytes) HELD_BYTE_LIMIT
 
+-- the limits allow one more statement
+abbrev pub has_statement_room : List StatementState → Bool
+has_statement_room statements = nat_lt (length statements) STATEMENT_LIMIT
+
 -- `load T FILE` with the file's bytes: it isn't too long, spells a table, and there is room
 abbrev pub ReadStep : State → List ℕ → List ℕ → Reply → State → Type 0
 ReadStep old name bytes answer new =
@@ -61,7 +65,7 @@ are_columns select table = is_name_in select.column table.schema && is_name_in s
 abbrev pub PrepareStep : State → List ℕ → Select → Reply → State → Type 0
 PrepareStep old name select answer new =
     MatchBool (is_some (find_statement old.statements name)) (Refuses NOT_BUILT [] old answer new)
-    (MatchBool (nat_lt (length old.statements) STATEMENT_LIMIT)
+    (MatchBool (has_statement_room old.statements)
     (MatchOption (find_table old.tables select.table) (Refuses UNKNOWN_TABLE select.table old answer new)
     (λ table. MatchBool (are_columns select table) (Prepares old name select.table answer new) (Refuses NOT_BUILT [] old answer new)))
     (Refuses NOT_BUILT [] old answer new))
