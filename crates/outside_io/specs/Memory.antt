@@ -1,5 +1,5 @@
 -- Shelves and sinks in memory, as plain values: which bytes stand under a name, which calls fail, and what a call leaves.
-use Rattle.std.specs.Prelude.{ℕ, ◌≡◌, ◌==◌, Bool, if◌then◌else◌, List, [], ◌∷◌, ◌++◌, take, Option, Some, None}
+use Rattle.std.specs.Prelude.{ℕ, ◌≡◌, ◌≢◌, ◌==◌, Bool, if◌then◌else◌, List, [], ◌∷◌, ◌++◌, take, Option, Some, None}
 use Rattle.std.specs.List.{find, list_any}
 use Rattle.std.specs.Option.{option_map}
 use Rattle.std.specs.Str.{bytes_eq}
@@ -41,6 +41,10 @@ has_name name file = bytes_eq file.name name
 -- the bytes that stand under a name
 abbrev pub bytes_at : List Named → List ℕ → Option (List ℕ)
 bytes_at files name = option_map (λ file. file.bytes) (find (has_name name) files)
+
+-- each other name has the bytes that it had
+abbrev pub KeepsOthers : List Named → List Named → List ℕ → Type 0
+KeepsOthers old new name = (other : List ℕ) → other ≢ name → bytes_at new other ≡ bytes_at old other
 
 -- whether this call is to fail
 abbrev pub fails_at : List ℕ → ℕ → Bool

@@ -54,7 +54,8 @@ impl<R: Files> FileShelf<R> {
 fn read_up_to<F: Read>(file: &mut F, limit: usize, into: &mut Vec<u8>) -> Fetched
     requires fits { limit < usize.MAX }
     requires empty { into.old.items ≡ [] }
-    ensures got { result ≡ Fetched.Got → Told (F.remaining file.old) (λ bytes. into.new.items ≡ up_to limit bytes) }
+    ensures got { result ≡ Fetched.Got →
+        Told (F.remaining file.old) (λ bytes. into.new.items ≡ up_to limit bytes) }
     ensures long { length into.new.items ≤ limit + 1 }
     ensures there { result ≢ Fetched.Missing }
 {
@@ -115,7 +116,8 @@ impl<R: Files> Shelf for FileShelf<R> {
 
     fn fetch(&mut self, alloc: Global, name: &str, limit: usize, into: &mut Vec<u8>) -> Fetched
         requires { limit < usize.MAX }
-        ensures fetches { Fetches None name.now limit self.old.faults self.new.faults self.old.misses self.new.misses result into.new.items }
+        ensures fetches { Fetches None name.now limit
+            self.old.faults self.new.faults self.old.misses self.new.misses result into.new.items }
         ensures faults { self.new.faults ≡ faults_after self.old.faults result }
         ensures misses { self.new.misses ≡ misses_after self.old.misses result }
     {

@@ -56,7 +56,8 @@ pub trait Shelf {
     /// any answer but `Got` it is empty.
     fn fetch(&mut self, alloc: Global, name: &str, limit: usize, into: &mut Vec<u8>) -> Fetched
         requires { limit < usize.MAX }
-        ensures fetches { Fetches (files self.old) name.now limit (faults self.old) (faults self.new) (misses self.old) (misses self.new) result into.new.items }
+        ensures fetches { Fetches (files self.old) name.now limit
+            (faults self.old) (faults self.new) (misses self.old) (misses self.new) result into.new.items }
         ensures files { files self.new ≡ files self.old };
 }
 
@@ -68,5 +69,6 @@ pub trait Sink {
 
     /// Appends these bytes to what was taken. After `Failed` the first few of them may be there.
     fn put(&mut self, bytes: &[u8]) -> Put
-        ensures { Puts (taken self.old) (taken self.new) (faults self.old) (faults self.new) result bytes.now };
+        ensures { Puts (taken self.old) (taken self.new)
+            (faults self.old) (faults self.new) result bytes.now };
 }

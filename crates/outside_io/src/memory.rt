@@ -3,12 +3,12 @@
 //! A name has one file at the most: `give` is the one place that adds one. Growth comes first, so a call that lacks
 //! memory leaves its object as it was. `SureShelf` and `SureSink` are the same without a call that fails.
 
-ghost use Rattle.std.specs.Prelude.{◌≡◌, ◌≢◌, ◌+◌, ◌<◌, ◌≤◌, ◌↔◌, ℕ, List, [], ◌∷◌, ◌++◌, length, Some, IfOk, OnOk, OnErr, IsTrue, take};
+ghost use Rattle.std.specs.Prelude.{◌≡◌, ◌≢◌, ◌+◌, ◌<◌, ◌≤◌, ◌↔◌, [], ◌∷◌, ◌++◌, length, Some, OnOk, OnErr, IsTrue, take};
 ghost use Rattle.std.specs.List.{position};
 ghost use Rattle.std.specs.Option.{option_map};
 ghost use Rattle.outside_model.specs.Files.{up_to};
 ghost use Rattle.outside_io.specs.Calls.{Gives, Fetches, Puts, misses_after};
-ghost use Rattle.outside_io.specs.Memory.{has_name, bytes_at, takes_at, fails_at, after_fetch, PutsInMemory};
+ghost use Rattle.outside_io.specs.Memory.{has_name, bytes_at, KeepsOthers, takes_at, fails_at, after_fetch, PutsInMemory};
 
 use crate::{Fetched, Put, Shelf, Sink};
 use std::alloc::{AllocError, Global};
@@ -55,7 +55,7 @@ fn position_of(files: &[File], name: &str) -> Option<usize>
 /// Gives the name these bytes, in place of those before; after want of memory the files are as before.
 fn give(files: &mut Vec<File>, alloc: Global, name: &str, bytes: &[u8]) -> Result<(), AllocError>
     ensures given { OnOk result (bytes_at files.new.items name.now ≡ Some bytes.now) }
-    ensures others { (other : List ℕ) → other ≢ name.now → bytes_at files.new.items other ≡ bytes_at files.old.items other }
+    ensures others { KeepsOthers files.old.items files.new.items name.now }
     ensures unchanged { OnErr result (files.new.items ≡ files.old.items) }
 {
     let file = File {
@@ -125,7 +125,13 @@ impl Model for MemShelf {
 
     ghost Value = { ShelfInMemory };
 
-    ghost view = { λ s. record { files = s.files.items; failing = s.failing.items; calls = s.calls; faults = s.faults; misses = s.misses } };
+    ghost view = { λ s. record {
+      files = s.files.items;
+      failing = s.failing.items;
+      calls = s.calls;
+      faults = s.faults;
+      misses = s.misses;
+    } };
 }
 
 impl MemShelf {
@@ -146,7 +152,7 @@ impl MemShelf {
     /// Gives the name these bytes, in place of those before; after want of memory the shelf is as before.
     pub fn put_file(&mut self, name: &str, bytes: &[u8]) -> Result<(), AllocError>
         ensures given { OnOk result (bytes_at self.new.files name.now ≡ Some bytes.now) }
-        ensures others { (other : List ℕ) → other ≢ name.now → bytes_at self.new.files other ≡ bytes_at self.old.files other }
+        ensures others { KeepsOthers self.old.files self.new.files name.now }
         ensures rest { self.new ≡ record self.old { files = self.new.files } }
         ensures unchanged { OnErr result (self.new ≡ self.old) }
     {
@@ -182,7 +188,8 @@ impl Shelf for MemShelf {
 
     fn fetch(&mut self, alloc: Global, name: &str, limit: usize, into: &mut Vec<u8>) -> Fetched
         requires { limit < usize.MAX }
-        ensures fetches { Fetches (Some (bytes_at self.old.files)) name.now limit self.old.faults self.new.faults self.old.misses self.new.misses result into.new.items }
+        ensures fetches { Fetches (Some (bytes_at self.old.files)) name.now limit
+            self.old.faults self.new.faults self.old.misses self.new.misses result into.new.items }
         ensures files { self.new.files ≡ self.old.files }
         ensures fails { IsTrue (fails_at self.old.failing self.new.calls) ↔ (result ≡ Fetched.Failed) }
         ensures counted { self.new ≡ after_fetch self.old result }
@@ -232,7 +239,7 @@ impl SureShelf {
     /// Gives the name these bytes, in place of those before; after want of memory the shelf is as before.
     pub fn put_file(&mut self, name: &str, bytes: &[u8]) -> Result<(), AllocError>
         ensures given { OnOk result (bytes_at self.new.files name.now ≡ Some bytes.now) }
-        ensures others { (other : List ℕ) → other ≢ name.now → bytes_at self.new.files other ≡ bytes_at self.old.files other }
+        ensures others { KeepsOthers self.old.files self.new.files name.now }
         ensures rest { self.new ≡ record self.old { files = self.new.files } }
         ensures unchanged { OnErr result (self.new ≡ self.old) }
     {
@@ -252,7 +259,8 @@ impl Shelf for SureShelf {
 
     fn fetch(&mut self, alloc: Global, name: &str, limit: usize, into: &mut Vec<u8>) -> Fetched
         requires { limit < usize.MAX }
-        ensures fetches { Fetches (Some (bytes_at self.old.files)) name.now limit 0 0 self.old.misses self.new.misses result into.new.items }
+        ensures fetches { Fetches (Some (bytes_at self.old.files)) name.now limit
+            0 0 self.old.misses self.new.misses result into.new.items }
         ensures files { self.new.files ≡ self.old.files }
         ensures counted { self.new.misses ≡ misses_after self.old.misses result }
     {
@@ -297,7 +305,12 @@ impl Model for MemSink {
 
     ghost Value = { SinkInMemory };
 
-    ghost view = { λ s. record { taken = s.taken.items; failing = s.failing.items; calls = s.calls; faults = s.faults } };
+    ghost view = { λ s. record {
+      taken = s.taken.items;
+      failing = s.failing.items;
+      calls = s.calls;
+      faults = s.faults;
+    } };
 }
 
 impl MemSink {
@@ -316,7 +329,9 @@ impl MemSink {
     /// Lets that put fail after the first `takes` bytes of its piece, or after all where there are fewer. What is
     /// said last of a put counts. After want of memory the sink is as before.
     pub fn fail_at(&mut self, call: u64, takes: usize) -> Result<(), AllocError>
-        ensures ok { OnOk result (self.new ≡ record self.old { failing = record { call = call; takes = takes } ∷ self.old.failing }) }
+        ensures ok { OnOk result (self.new ≡ record self.old {
+          failing = record { call = call; takes = takes } ∷ self.old.failing;
+        }) }
         ensures unchanged { OnErr result (self.new ≡ self.old) }
     {
         // In front of the earlier ones, since the first of a put is looked at.
@@ -340,7 +355,8 @@ impl Sink for MemSink {
     ghost faults = { λ s. s.faults };
 
     fn put(&mut self, bytes: &[u8]) -> Put
-        ensures puts { Puts (Some self.old.taken) (Some self.new.taken) self.old.faults self.new.faults result bytes.now }
+        ensures puts { Puts (Some self.old.taken) (Some self.new.taken)
+            self.old.faults self.new.faults result bytes.now }
         ensures in_memory { PutsInMemory self.old self.new result bytes.now }
     {
         self.calls = self.calls.saturating_add(1);
