@@ -1,1 +1,9 @@
-mod Cells
+pub mod Decimals
+pub mod Fields
+pub mod Names
+pub mod RecordsLeft
+pub mod Rows
+pub mod Sound
+pub mod Spelled
+pub mod Surveyed
+pub mod Texts

@@ -1,52 +1,47 @@
--- The table that the records of a file spell: one column of whole numbers under a plain name.
-use Rattle.std.specs.Prelude.{ℕ, ◌≡◌, List, [], ◌∷◌, map, Option, Some, None, if◌then◌else◌}
-use Rattle.std.specs.Option.{option_map, option_and_then}
-use Rattle.std.specs.Str.{is_utf8}
-use Rattle.csv.specs.Reading.{AreRecords, default_config, strip_bom}
-use Rattle.csv.specs.declared.parser.State.TheVariants as st
-use Rattle.row_values.specs.Numbers.{whole_number_of}
-use Rattle.row_values.specs.Plain.{is_plain}
+-- What a table is: columns, and rows that have a value for each of them.
+use Rattle.std.specs.Prelude.{◌≡◌, ℕ, zero, suc, ◌*◌, ◌≤◌, List, [], ◌∷◌, All, Option, None, Some, drop, length, map, slice_get, take}
+use Rattle.row_values.specs.Columns.{IsSchema}
+use Rattle.row_values.specs.Values.{kind_of}
 use Rattle.row_values.specs.declared.columns.Column.{Column}
+use Rattle.row_values.specs.declared.values.Kind.{Kind}
 use Rattle.row_values.specs.declared.values.Value.{Value}
-use Rattle.row_values.specs.declared.values.Value.TheVariants.{Int}
-use Rattle.row_values.specs.declared.values.Kind.TheVariants as kind
+use Rattle.csv_tables.specs.declared.table.TheConstants.{CELL_LIMIT, ROW_LIMIT}
 
--- what a table holds
-pub record Content : Type 0 where
+-- what contracts see of a table
+pub record TableValue : Type 0 where
   pub schema : List Column
   pub rows : List (List Value)
 
--- a table of one value a row
-abbrev pub content : List Column → List Value → Content
-content schema values = record { schema = schema; rows = map (λ value. value ∷ []) values }
+-- the kinds of the columns, in order
+abbrev pub column_kinds : List Column → List Kind
+column_kinds schema = map (λ column. column.kind) schema
 
--- the one cell of a record, where it is UTF-8
-abbrev pub only_cell : List (List ℕ) → Option (List ℕ)
-only_cell [] = None
-only_cell (cell ∷ []) = if is_utf8 cell then Some cell else None
-only_cell (cell ∷ other ∷ cells) = None
+-- what every table keeps: sound columns, few rows and cells, and in each row a value per column, of that column's kind
+pub record IsTable (table : TableValue) : Type 0 where
+  pub columns : IsSchema table.schema
+  pub few_rows : length table.rows ≤ ROW_LIMIT
+  pub few_cells : length table.rows * length table.schema ≤ CELL_LIMIT
+  pub fits : All (λ row. map kind_of row ≡ column_kinds table.schema) table.rows
 
--- the whole number in a record of one cell
-abbrev pub value_in : List (List ℕ) → Option Value
-value_in fields = option_map (λ n. Int n) (option_and_then whole_number_of (only_cell fields))
+-- the value in this column of a row, where there is one
+abbrev pub value_in : Option (List Value) → ℕ → Option Value
+value_in None column = None
+value_in (Some row) column = slice_get row column
 
--- the whole numbers of records that have one each
-abbrev pub values_in : List (List (List ℕ)) → Option (List Value)
-values_in [] = Some []
-values_in (fields ∷ records) = option_and_then (λ value. option_map (λ values. value ∷ values) (values_in records)) (value_in fields)
+-- the cell in this row and column, both counted from 0
+abbrev pub cell_at : TableValue → ℕ → ℕ → Option Value
+cell_at table row column = value_in (slice_get table.rows row) column
 
--- the one column that a header of a plain name gives
-abbrev pub header_in : List (List ℕ) → Option (List Column)
-header_in fields = option_and_then (λ name. if is_plain name then Some (record { name = name; kind = kind.Int } ∷ []) else None) (only_cell fields)
+-- a list of cells as so many rows of this width
+unfoldable pub rows_of : ℕ → ℕ → List Value → List (List Value)
+rows_of zero width cells = []
+rows_of (suc count) width cells = take width cells ∷ rows_of count width (drop width cells)
 
--- the table that a header and at least one further record spell
-abbrev pub table_of : List (List (List ℕ)) → Option Content
-table_of [] = None
-table_of (header ∷ []) = None
-table_of (header ∷ first ∷ others) = option_and_then (λ schema. option_map (content schema) (values_in (first ∷ others))) (header_in header)
+-- how a table is kept: so many rows, and their cells one row after the other
+abbrev pub table_of_cells : List Column → ℕ → List Value → TableValue
+table_of_cells schema row_count cells = record { schema = schema; rows = rows_of row_count (length schema) cells }
 
--- the records of a file's bytes, as the crate `csv` reads them, spell this table, or none
-pub record IsFileOf (bytes : List ℕ) (table : Option Content) : Type 0 where
-  pub records : List (List (List ℕ))
-  pub are : AreRecords default_config st.StartRecord (strip_bom bytes) records
-  pub spell : table_of records ≡ table
+-- the cells fill the rows, and the rows are a table
+pub record IsKept (schema : List Column) (row_count : ℕ) (cells : List Value) : Type 0 where
+  pub full : length cells ≡ row_count * length schema
+  pub sound : IsTable (table_of_cells schema row_count cells)

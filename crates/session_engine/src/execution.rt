@@ -1,7 +1,7 @@
 //! Executing a statement: which rows meet it, and how they are written.
 //!
 //! A result is counted before a row line is made, so a result that is too large takes no memory.
-ghost use Rattle.std.specs.Prelude.{◌≡◌, ◌++◌, ◌∷◌, [], if◌then◌else◌, IfOk, OnOk, length, map, string_bytes};
+ghost use Rattle.std.specs.Prelude.{◌≡◌, ◌<◌, ◌++◌, ◌∷◌, [], if◌then◌else◌, IfOk, OnOk, length, map, string_bytes};
 ghost use Rattle.session_model.specs.Meaning as meaning;
 
 use csv_tables::Table;
@@ -28,11 +28,12 @@ fn one_below(argument: &i64, value: &Value) -> usize
 
 /// How many rows of the table meet the predicate.
 pub fn count_below(table: &Table, argument: &i64) -> usize
+    requires { 0 < length table.now.schema }
     ensures { result ≡ length (meaning.meaning_of table.now argument.now) }
 {
     let mut count = 0;
     for row in 0..table.len() {
-        count += one_below(argument, table.value(row));
+        count += one_below(argument, table.cell(row, 0));
     }
     count
 }
@@ -80,11 +81,12 @@ fn push_below(
 
 /// The row lines of the rows of the table that meet the predicate.
 pub fn lines_below(alloc: Global, table: &Table, argument: &i64) -> Result<Lines, AllocError>
+    requires { 0 < length table.now.schema }
     ensures { IfOk result (λ lines. lines ≡ map meaning.row_line (meaning.meaning_of table.now argument.now)) }
 {
     let mut lines = Lines::new(alloc);
     for row in 0..table.len() {
-        push_below(alloc, &mut lines, argument, table.value(row))?;
+        push_below(alloc, &mut lines, argument, table.cell(row, 0))?;
     }
     Ok(lines)
 }

@@ -2,14 +2,17 @@
 ghost use Rattle.std.specs.Prelude.{◌≡◌, ◌≢◌, ◌+◌, ◌≤◌, ◌<◌, ◌^◌, ◌∷◌, [], IfOk, OnErr, option_map, length, slice_get, is_some, None, max};
 ghost use Rattle.script_report.specs.Commands.{Says};
 ghost use Rattle.session_model.specs.Meaning as meaning;
-ghost use Rattle.row_values.specs.Columns.{is_name_in};
+ghost use Rattle.session_model.specs.Faults.{fault_text as shown_fault};
 ghost use Rattle.session_model.specs.State.{initial_state, find_table};
-ghost use Rattle.session_model.specs.Step.{Step, CommandStep, LoadStep, ReadStep, PrepareStep, RunStep};
+ghost use Rattle.session_model.specs.Step.{are_columns as statement_columns, is_number as number_kind, Step, CommandStep, LoadStep, ReadStep, PrepareStep, RunStep};
 
 use crate::execution::{count_below, lines_below, plan_text};
 use csv_tables::{Table, TableFault, read_table};
 use outside_model::FILE_LIMIT;
-use row_values::{Args, MISSING_FILE, NOT_BUILT, Refusal, Schema, UNKNOWN_TABLE, Value, Words};
+use row_values::{
+    Column, FILE_TOO_LONG, Kind, MISSING_FILE, NOT_A_TABLE, NOT_BUILT, Refusal, UNKNOWN_TABLE,
+    Value, Words,
+};
 use script_report::{Command, Execution, Reply};
 use session_model::{COST_SCALE, RESULT_LIMIT};
 use session_store::Store;
@@ -63,16 +66,42 @@ fn selectivity_of(count: usize) -> u64
     count.max(1) as u64
 }
 
-/// Whether the schema has a column of this name.
-fn has_column(schema: &Schema, name: &Words) -> bool
-    ensures { result ≡ is_name_in name.now schema.now }
+/// Whether the kind is that of whole numbers.
+fn is_number(kind: Kind) -> bool
+    ensures { result ≡ number_kind kind }
 {
-    for column in schema.columns() {
-        if column.name == *name {
-            return true;
-        }
+    match kind {
+        Kind::Int => true,
+        Kind::Text => false,
     }
-    false
+}
+
+/// Whether these are one column, of whole numbers, and both columns of the statement are that one.
+fn are_columns(select: &Select, columns: &[Column]) -> bool
+    ensures { result ≡ statement_columns select.now columns.now }
+{
+    match columns {
+        [column] => {
+            is_number(column.kind) && column.name == select.column && column.name == select.tested
+        }
+        _ => false,
+    }
+}
+
+/// What is shown of a fault that makes a file no table.
+fn fault_text(alloc: Global, fault: TableFault) -> Result<Words, AllocError>
+    ensures { IfOk result (λ text. text ≡ shown_fault fault) }
+{
+    let text = match fault {
+        TableFault::Columns => String::from_str(alloc, "columns")?,
+        TableFault::BadHeader(column) => format!(in alloc; "bad header {column}")?,
+        TableFault::Rows => String::from_str(alloc, "rows")?,
+        TableFault::Cells => String::from_str(alloc, "cells")?,
+        TableFault::NotCsv(row) => format!(in alloc; "not csv {row}")?,
+        TableFault::BadCell(row, column) => format!(in alloc; "bad cell {row} {column}")?,
+        TableFault::Memory => String::new(alloc),
+    };
+    Ok(Words::from_string(text))
 }
 
 impl Engine {
@@ -101,11 +130,14 @@ impl Engine {
         ensures counts { self.new.executions ≤ self.old.executions + 1 }
     {
         if bytes.len() > FILE_LIMIT {
-            return Ok(refused(alloc, NOT_BUILT));
+            return Ok(refused(alloc, FILE_TOO_LONG));
         }
         match read_table(alloc, bytes) {
             Err(TableFault::Memory) => Err(AllocError),
-            Err(TableFault::NotBuilt) => Ok(refused(alloc, NOT_BUILT)),
+            Err(fault) => Ok(Reply::Refused(Refusal {
+                code: NOT_A_TABLE,
+                shown: fault_text(alloc, fault)?,
+            })),
             Ok(table) => {
                 if !self.store.has_room(&table, bytes.len()) {
                     return Ok(refused(alloc, NOT_BUILT));
@@ -163,10 +195,7 @@ impl Engine {
                 shown: select.table.copy(alloc)?,
             }));
         };
-        if !has_column(table.schema(), &select.column) {
-            return Ok(refused(alloc, NOT_BUILT));
-        }
-        if !has_column(table.schema(), &select.tested) {
+        if !are_columns(select, table.schema().columns()) {
             return Ok(refused(alloc, NOT_BUILT));
         }
         let shown = name.copy(alloc)?;
@@ -195,6 +224,9 @@ impl Engine {
         let Some(table) = self.store.table(table_name) else {
             return Ok(refused(alloc, NOT_BUILT));
         };
+        if table.schema().columns().len() != 1 {
+            return Ok(refused(alloc, NOT_BUILT));
+        }
         let Some(argument) = only_number(args) else {
             return Ok(refused(alloc, NOT_BUILT));
         };

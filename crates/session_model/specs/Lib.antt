@@ -1,3 +1,4 @@
+pub mod Faults
 pub mod Meaning
 pub mod Run
 pub mod State

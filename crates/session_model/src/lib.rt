@@ -13,8 +13,6 @@ pub const STATEMENT_LIMIT: usize = 256;
 pub const HELD_CELL_LIMIT: usize = 8388608;
 /// The most bytes of the files of the tables that are kept, 2^28: a bound on the texts in their cells.
 pub const HELD_BYTE_LIMIT: usize = 268435456;
-/// The most rows of a table, 2^20.
-pub const ROW_LIMIT: usize = 1048576;
 /// The most rows of a result.
 pub const RESULT_LIMIT: usize = 1000000;
 /// The unit of cost, 2^40: costs are whole numbers of this part of reading a row.

@@ -5,8 +5,8 @@ use Rattle.std.specs.Option.{option_map}
 use Rattle.std.specs.Map.{lookup}
 use Rattle.std.proofs.lemmas.Bool.Decides.{nat_tests}
 use Rattle.indexmap.specs.IndexMap.{insert_entry}
-use Rattle.csv_tables.specs.Tables.{Content}
-use Rattle.session_model.specs.State.{TableState, StatementState, find_table, find_statement, cells_held, bytes_held}
+use Rattle.csv_tables.specs.Tables.{TableValue}
+use Rattle.session_model.specs.State.{TableState, StatementState, find_table, find_statement, cells_of, cells_held, bytes_held}
 use Rattle.session_model.specs.Step.{has_room}
 use Rattle.session_store.specs.Kept.{tables_of, statements_of}
 use Rattle.session_store.specs.declared.Held.{Held}
@@ -19,7 +19,7 @@ pub length-statements_of : (es : List (List ℕ × List ℕ)) → length (statem
 length-statements_of [] = refl
 length-statements_of (e ∷ es) = ap suc (length-statements_of es)
 
-map_cond : (test : Bool) (h : Held) (rest : Option Held) (rest' : Option Content) → option_map (λ x. x.table) rest ≡ rest' → option_map (λ x. x.table) (cond test (Some h) rest) ≡ cond test (Some h.table) rest'
+map_cond : (test : Bool) (h : Held) (rest : Option Held) (rest' : Option TableValue) → option_map (λ x. x.table) rest ≡ rest' → option_map (λ x. x.table) (cond test (Some h) rest) ≡ cond test (Some h.table) rest'
 map_cond true h rest rest' e = refl
 map_cond false h rest rest' e = e
 
@@ -59,27 +59,27 @@ pub statement_last : (es : List (List ℕ × List ℕ)) (name table : List ℕ) 
 statement_last [] name table none = refl
 statement_last (e ∷ es) name table none = statement_behind (bytes_eq name e.0) e es name table none (λ (n : find_statement (statements_of es) name ≡ None). statement_last es name table n)
 
-pub cells_held-append : (ts : List TableState) (t : TableState) → cells_held (ts ++ t ∷ []) ≡ cells_held ts + length t.content.rows
+pub cells_held-append : (ts : List TableState) (t : TableState) → cells_held (ts ++ t ∷ []) ≡ cells_held ts + cells_of t.content
 cells_held-append [] t = omega arith
-cells_held-append (s ∷ ts) t = ap (λ (n : ℕ). length s.content.rows + n) (cells_held-append ts t) ∙ sym (add_assoc (length s.content.rows) (cells_held ts) (length t.content.rows))
+cells_held-append (s ∷ ts) t = ap (λ (n : ℕ). cells_of s.content + n) (cells_held-append ts t) ∙ sym (add_assoc (cells_of s.content) (cells_held ts) (cells_of t.content))
 
 pub bytes_held-append : (ts : List TableState) (t : TableState) → bytes_held (ts ++ t ∷ []) ≡ bytes_held ts + t.bytes
 bytes_held-append [] t = omega arith
 bytes_held-append (s ∷ ts) t = ap (λ (n : ℕ). s.bytes + n) (bytes_held-append ts t) ∙ sym (add_assoc s.bytes (bytes_held ts) t.bytes)
 
 -- the tests of `has_room`, by what the store counts
-pub no_room : (es : List (List ℕ × Held)) (ts : List TableState) (table : Content) (count bytes : ℕ) → tables_of es ≡ ts → count ≡ length es → 64 ≤ count → false ≡ has_room ts table bytes
+pub no_room : (es : List (List ℕ × Held)) (ts : List TableState) (table : TableValue) (count bytes : ℕ) → tables_of es ≡ ts → count ≡ length es → 64 ≤ count → false ≡ has_room ts table bytes
 no_room es ts table count bytes same n many =
     let l : length ts ≡ count = sym (ap length same) ∙ (length-tables_of es ∙ sym n) in
     grind (arith, nat_tests)
 
-pub room : (es : List (List ℕ × Held)) (ts : List TableState) (table : Content) (count bytes cells held rows : ℕ) → tables_of es ≡ ts → count ≡ length es → count < 64 → rows ≡ length table.rows → rows ≤ 1048576 →
+pub room : (es : List (List ℕ × Held)) (ts : List TableState) (table : TableValue) (count bytes cells held rows : ℕ) → tables_of es ≡ ts → count ≡ length es → count < 64 → rows ≡ cells_of table →
     cells ≡ cells_held (tables_of es) → held ≡ bytes_held (tables_of es) → cells ≤ 8388608 → held ≤ 268435456 → rows ≤ 8388608 - cells → nat_le bytes (268435456 - held) ≡ has_room ts table bytes
-room es ts table count bytes cells held rows same n few r small c h cs hs fits =
+room es ts table count bytes cells held rows same n few r c h cs hs fits =
     let l : length ts ≡ count = sym (ap length same) ∙ (length-tables_of es ∙ sym n) in
     let c' : cells_held ts ≡ cells = sym (ap cells_held same) ∙ sym c in
     let h' : bytes_held ts ≡ held = sym (ap bytes_held same) ∙ sym h in
     grind (arith, nat_tests)
 
-pub room_tells : (ts : List TableState) (table : Content) (bytes : ℕ) → has_room ts table bytes ≡ true → (cells_held ts + length table.rows ≤ 8388608) × (bytes_held ts + bytes ≤ 268435456)
+pub room_tells : (ts : List TableState) (table : TableValue) (bytes : ℕ) → has_room ts table bytes ≡ true → (cells_held ts + cells_of table ≤ 8388608) × (bytes_held ts + bytes ≤ 268435456)
 room_tells ts table bytes h = grind (arith, nat_tests)

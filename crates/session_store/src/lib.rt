@@ -5,13 +5,13 @@
 
 ghost use Rattle.std.specs.Prelude.{◌≡◌, ◌++◌, ◌∷◌, [], OnOk, OnErr, None, true};
 ghost use Rattle.std.specs.Option.{option_map};
-ghost use Rattle.session_model.specs.State.{find_table, find_statement};
+ghost use Rattle.session_model.specs.State.{cells_of, find_table, find_statement};
 ghost use Rattle.session_model.specs.Step.{has_room, has_statement_room};
 
 use csv_tables::Table;
 use indexmap::IndexMap;
 use row_values::Words;
-use session_model::{HELD_BYTE_LIMIT, HELD_CELL_LIMIT, ROW_LIMIT, STATEMENT_LIMIT, TABLE_LIMIT};
+use session_model::{HELD_BYTE_LIMIT, HELD_CELL_LIMIT, STATEMENT_LIMIT, TABLE_LIMIT};
 use std::alloc::{AllocError, Global};
 use std::marker::Model;
 
@@ -39,6 +39,14 @@ impl Model for Store {
     ghost view = { λ s. record { tables = tables_of s.tables.entries; statements = statements_of s.statements.entries } };
 
     ghost invariant = { λ s. IsKept s.tables.entries s.cells s.bytes };
+}
+
+/// The cells of a table.
+fn cells_of(table: &Table) -> usize
+    ensures { result ≡ cells_of table.now }
+{
+    let rows = table.len();
+    rows * table.schema().columns().len()
 }
 
 impl Store {
@@ -76,14 +84,10 @@ impl Store {
     pub fn has_room(&self, table: &Table, bytes: usize) -> bool
         ensures { result ≡ has_room self.now.tables table.now bytes }
     {
-        let rows = table.len();
-        if rows > ROW_LIMIT {
-            return false;
-        }
         if self.tables.len() >= TABLE_LIMIT {
             return false;
         }
-        if rows > HELD_CELL_LIMIT - self.cells {
+        if cells_of(table) > HELD_CELL_LIMIT - self.cells {
             return false;
         }
         bytes <= HELD_BYTE_LIMIT - self.bytes
@@ -104,7 +108,7 @@ impl Store {
         ensures err { OnErr result (self.new.tables ≡ self.old.tables) }
         ensures statements { self.new.statements ≡ self.old.statements }
     {
-        let cells = table.len();
+        let cells = cells_of(&table);
         self.tables.insert(name, Held { table, bytes })?;
         self.cells += cells;
         self.bytes += bytes;

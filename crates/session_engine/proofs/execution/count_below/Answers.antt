@@ -5,12 +5,12 @@ use Rattle.session_engine.proofs.execution.count_below.Goals as goal
 
 pub overflow_add-count : goal.overflow_add-count
 overflow_add-count c =
-    let small = one_at_most (is_below_value _ c.value.result.now) c.one_below-count.result c.one_below-count.ensures in omega arith
+    let small = one_at_most (is_below_value _ c.cell.result.now) c.one_below-count.result c.one_below-count.ensures in omega arith
 
 pub loop-row-preserved : goal.loop-row-preserved
 loop-row-preserved c =
-    let small = one_at_most (is_below_value _ c.value.result.now) c.one_below-count.result c.one_below-count.ensures in
+    let small = one_at_most (is_below_value _ c.cell.result.now) c.one_below-count.result c.one_below-count.ensures in
     record {
-      counted = count_more _ c.args.table.now.rows c.loop-row.row c.value.result.now c.loop-row.count c.one_below-count.result c.value.ensures c.loop-row.invariant.counted c.one_below-count.ensures;
+      counted = count_more _ c.args.table.now.rows c.loop-row.row c.cell.result.now c.loop-row.count c.one_below-count.result c.cell.ensures c.loop-row.invariant.counted c.one_below-count.ensures;
       few = omega arith;
     }

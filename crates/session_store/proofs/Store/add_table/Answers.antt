@@ -1,5 +1,5 @@
-use Rattle.std.proofs.Common.{◌≡◌, ◌∙◌, ◌++◌, ◌+◌, ◌∷◌, [], None, ap, sym, List, arith, length}
-use Rattle.session_model.specs.State.{TableState, find_table, cells_held, bytes_held}
+use Rattle.std.proofs.Common.{◌≡◌, ◌∙◌, ◌++◌, ◌+◌, ◌∷◌, [], None, ap, sym, List, arith}
+use Rattle.session_model.specs.State.{TableState, find_table, cells_of, cells_held, bytes_held}
 use Rattle.session_store.specs.Kept.{Kept, tables_of}
 use Rattle.session_store.specs.declared.Held.{Held}
 use Rattle.session_store.proofs.Entries.{table_last, new_table, cells_held-append, bytes_held-append, room_tells}
@@ -20,7 +20,7 @@ invariant_of-self-2 c =
     let new : find_table (tables_of c.self.inside.tables.entries) c.args.name ≡ None = rw same c.requires.new in
     let after : tables_of c.insert.new.self.entries ≡ tables_of c.self.inside.tables.entries ++ new_table c.args.name held ∷ [] =
     ap tables_of c.in_ok-insert.ensures.entries ∙ table_last c.self.inside.tables.entries c.args.name held new in
-    let cells : cells_held (tables_of c.insert.new.self.entries) ≡ cells_held (tables_of c.self.inside.tables.entries) + length c.args.table.rows =
+    let cells : cells_held (tables_of c.insert.new.self.entries) ≡ cells_held (tables_of c.self.inside.tables.entries) + cells_of c.args.table =
     ap cells_held after ∙ cells_held-append (tables_of c.self.inside.tables.entries) (new_table c.args.name held) in
     let bytes : bytes_held (tables_of c.insert.new.self.entries) ≡ bytes_held (tables_of c.self.inside.tables.entries) + c.args.bytes =
     ap bytes_held after ∙ bytes_held-append (tables_of c.self.inside.tables.entries) (new_table c.args.name held) in

@@ -8,5 +8,5 @@ returns-then-len-ge-TABLE_LIMIT c = no_room c.self.inside.tables.entries _ c.arg
 
 pub returns : goal.returns
 returns c =
-    room c.self.inside.tables.entries _ c.args.table.now c.len.result c.args.bytes c.self.inside.cells c.self.inside.bytes c.len-rows.result (ap (λ (k : Kept). k.tables) c.self.view_is) c.len.ensures.len c.if-len-ge-TABLE_LIMIT.false c.len-rows.ensures
-    c.if-rows-gt-ROW_LIMIT.false c.self.invariant.cell_count c.self.invariant.byte_count c.self.invariant.few_cells c.self.invariant.few_bytes c.if-rows-self.false
+    room c.self.inside.tables.entries _ c.args.table.now c.len.result c.args.bytes c.self.inside.cells c.self.inside.bytes c.cells_of.result (ap (λ (k : Kept). k.tables) c.self.view_is) c.len.ensures.len c.if-len-ge-TABLE_LIMIT.false c.cells_of.ensures
+    c.self.invariant.cell_count c.self.invariant.byte_count c.self.invariant.few_cells c.self.invariant.few_bytes c.if-cells_of-self.false

@@ -1,0 +1,254 @@
+-- A file without a fault spells a table.
+use Rattle.std.proofs.Common.{if◌then◌else◌, ◌≡◌, ◌≤◌, ◌+◌, ◌*◌, ℕ, suc, nat_eq, Bool, true, false, not, ◌||◌, List, [], ◌∷◌, ◌++◌, get_or, length, map, Option, None, Some, Ok, refl, sym, ap, ◌∙◌, arith, zero-mul, suc-mul, length-append}
+use Rattle.std.proofs.lemmas.Bool.{true≢false}
+use Rattle.std.proofs.lemmas.List.{drop_at, get_or-map, length-map, take_at}
+use Rattle.std.specs.List.{flat_map, list_all, list_any}
+use Rattle.std.specs.Str.{bytes_eq, is_utf8}
+use Rattle.row_values.specs.Columns.{IsSchema, are_names, is_name_in}
+use Rattle.row_values.specs.Values.{kind_of}
+use Rattle.row_values.specs.declared.columns.Column.{Column}
+use Rattle.row_values.specs.declared.columns.TheConstants.{COLUMN_LIMIT}
+use Rattle.row_values.specs.declared.values.Kind.{Kind}
+use Rattle.row_values.specs.declared.values.Kind.TheVariants.{Int, Text}
+use Rattle.row_values.specs.declared.values.Value.{Value}
+use Rattle.csv_tables.specs.Cells.{all_numbers, are_cells, bad_column, columns_from, field, is_cell, is_number_column, kind_by, may_stand, value_of, values_from}
+use Rattle.csv_tables.specs.Headers.{bad_name, heading_of, is_bad_name, name_of}
+use Rattle.csv_tables.specs.Numbers.{is_whole_number}
+use Rattle.csv_tables.specs.Spelled.{bad_cell, cell_in_row, faults_of, first_of, table_of}
+use Rattle.csv_tables.specs.Reading.{records_of}
+use Rattle.csv_tables.specs.Surveys.{IsSoundFile, IsSurvey}
+use Rattle.csv_tables.specs.declared.survey.Survey.{Survey}
+use Rattle.csv_tables.specs.Tables.{IsKept, column_kinds, rows_of, table_of_cells}
+use Rattle.csv_tables.specs.declared.faults.TableFault.{TableFault}
+use Rattle.csv_tables.specs.declared.header.Heading.{Heading}
+use Rattle.csv_tables.specs.declared.table.TheConstants.{CELL_LIMIT, ROW_LIMIT}
+use Rattle.csv_tables.proofs.Rows.{length-rows_of}
+use Rattle.csv_tables.proofs.Spelled.{NoFault, later_faults, later_first, no_fault, spelled}
+use Rattle.csv_tables.proofs.Texts.{first_and, second_and}
+
+-- ---- each cell is one of its column's kind
+
+none_here : (b : Bool) (n : ℕ) (rest : Option ℕ) → (if b then rest else Some n) ≡ None → (b ≡ true) × (rest ≡ None)
+none_here true n rest h = (refl, h)
+none_here false n rest h = cc
+
+none_in_row : (n : ℕ) (column : Option ℕ) (below : Option (ℕ × ℕ)) → cell_in_row n column below ≡ None → (column ≡ None) × (below ≡ None)
+none_in_row n None below h = (refl, h)
+none_in_row n (Some column) below h = cc
+
+-- a cell that may stand under a heading is one of the column's kind, where a column of numbers has numbers alone
+stands : (mark : Option Kind) (numbers : Bool) (text : List ℕ) → may_stand mark text ≡ true → (numbers ≡ true → is_whole_number text ≡ true)
+    → is_cell (kind_by mark numbers) text ≡ true
+stands (Some kind) numbers text h n = h
+stands None true text h n = n refl
+stands None false text h n = h
+
+row_is_sound : (column : ℕ) (headings : List Heading) (all : List (List (List ℕ))) (row : List (List ℕ)) → bad_column column headings row ≡ None
+    → ((k : ℕ) → all_numbers k all ≡ true → is_whole_number (field row k) ≡ true) → are_cells column (columns_from column headings all) row ≡ true
+row_is_sound column [] all row h n = refl
+row_is_sound column (heading ∷ headings) all row h n =
+    let (here, rest) = none_here (may_stand heading.mark (field row column)) (column + 1) (bad_column (suc column) headings row) h in
+    let cell = stands heading.mark (is_number_column column all) (field row column) here (λ e. n column (second_and _ _ e)) in
+    rw (cell) (row_is_sound (suc column) headings all row rest n)
+
+pub rows_are_sound : (n : ℕ) (headings : List Heading) (all rows : List (List (List ℕ))) → bad_cell n headings rows ≡ None
+    → ((k : ℕ) → all_numbers k all ≡ true → all_numbers k rows ≡ true) → list_all (are_cells 0 (columns_from 0 headings all)) rows ≡ true
+rows_are_sound n headings all [] h p = refl
+rows_are_sound n headings all (row ∷ rows) h p =
+    let (here, below) = none_in_row n (bad_column 0 headings row) (bad_cell (suc n) headings rows) h in
+    let this = row_is_sound 0 headings all row here (λ k e. first_and (is_whole_number (field row k)) (all_numbers k rows) (p k e)) in
+    rw (this) (rows_are_sound (suc n) headings all rows below (λ k e. second_and (is_whole_number (field row k)) (all_numbers k rows) (p k e)))
+
+-- ---- the columns are a schema
+
+pub length-columns_from : (column : ℕ) (headings : List Heading) (rows : List (List (List ℕ))) → length (columns_from column headings rows) ≡ length headings
+length-columns_from column [] rows = refl
+length-columns_from column (heading ∷ headings) rows = ap suc (length-columns_from (suc column) headings rows)
+
+abbrev names_of : List Column → List (List ℕ)
+names_of columns = map (λ (column : Column). column.name) columns
+
+names-columns_from : (column : ℕ) (header : List (List ℕ)) (rows : List (List (List ℕ)))
+    → names_of (columns_from column (map heading_of header) rows) ≡ map name_of header
+names-columns_from column [] rows = refl
+names-columns_from column (cell ∷ header) rows = ap (λ (names : List (List ℕ)). name_of cell ∷ names) (names-columns_from (suc column) header rows)
+
+or_false : (a b : Bool) → (a || b) ≡ false → (a ≡ false) × (b ≡ false)
+or_false false b h = (refl, h)
+or_false true b h = absurd (true≢false h)
+
+any-append : (test : List ℕ → Bool) (xs ys : List (List ℕ)) → list_any test (xs ++ ys) ≡ false → (list_any test xs ≡ false) × (list_any test ys ≡ false)
+any-append test [] ys h = (refl, h)
+any-append test (x ∷ xs) ys h =
+    let (here, rest) = or_false (test x) (list_any test (xs ++ ys)) h in
+    let (front, back) = any-append test xs ys rest in
+    (rw here front, back)
+
+good_or_bad : (b : Bool) (n : ℕ) (rest : Option ℕ) → (if b then Some n else rest) ≡ None → (b ≡ false) × (rest ≡ None)
+good_or_bad false n rest h = (refl, h)
+good_or_bad true n rest h = cc
+
+good_parts : (earlier : List (List ℕ)) (name : List ℕ) → is_bad_name earlier name ≡ false
+    → (nat_eq (length name) 0 ≡ false) × (list_any (bytes_eq name) earlier ≡ false)
+good_parts earlier name h =
+    let (front, new) = or_false (nat_eq (length name) 0 || not (is_utf8 name)) (list_any (bytes_eq name) earlier) h in
+    ((or_false (nat_eq (length name) 0) (not (is_utf8 name)) front).0, new)
+
+-- a name that is there already doesn't come again
+not_again : (name : List ℕ) (n : ℕ) (earlier : List (List ℕ)) (columns : List Column) → bad_name n earlier (names_of columns) ≡ None
+    → ((other : List ℕ) → list_any (bytes_eq other) earlier ≡ false → bytes_eq other name ≡ false) → is_name_in name columns ≡ false
+not_again name n earlier [] h there = refl
+not_again name n earlier (column ∷ columns) h there =
+    let (good, rest) = good_or_bad (is_bad_name earlier column.name) n (bad_name (suc n) (earlier ++ column.name ∷ []) (names_of columns)) h in
+    let new = (good_parts earlier column.name good).1 in
+    rw (there column.name new)
+    (not_again name (suc n) (earlier ++ column.name ∷ []) columns rest (λ other e. there other (any-append (bytes_eq other) earlier (column.name ∷ []) e).0))
+
+pub names_are_good : (n : ℕ) (earlier : List (List ℕ)) (columns : List Column) → bad_name n earlier (names_of columns) ≡ None → are_names columns ≡ true
+names_are_good n earlier [] h = refl
+names_are_good n earlier (column ∷ columns) h =
+    let (good, rest) = good_or_bad (is_bad_name earlier column.name) n (bad_name (suc n) (earlier ++ column.name ∷ []) (names_of columns)) h in
+    let full = (good_parts earlier column.name good).0 in
+    let alone = not_again column.name (suc n) (earlier ++ column.name ∷ []) columns rest
+    (λ other e. (or_false (bytes_eq other column.name) false (any-append (bytes_eq other) earlier (column.name ∷ []) e).1).0) in
+    rw (full, alone) (names_are_good (suc n) (earlier ++ column.name ∷ []) columns rest)
+
+pub is_schema : (header : List (List ℕ)) (rows : List (List (List ℕ))) → NoFault header rows → IsSchema (columns_from 0 (map heading_of header) rows)
+is_schema header rows f = record {
+  few = rw (length-columns_from 0 (map heading_of header) rows, length-map header heading_of) f.columns;
+  named = names_are_good 1 [] (columns_from 0 (map heading_of header) rows) (rw (names-columns_from 0 header rows) f.names);
+}
+
+-- ---- the cells are the rows
+
+pub length-values_from : (column : ℕ) (columns : List Column) (row : List (List ℕ)) → length (values_from column columns row) ≡ length columns
+length-values_from column [] row = refl
+length-values_from column (this ∷ columns) row = ap suc (length-values_from (suc column) columns row)
+
+kind-value_of : (kind : Kind) (text : List ℕ) → kind_of (value_of kind text) ≡ kind
+kind-value_of Int text = refl
+kind-value_of Text text = refl
+
+kinds-values_from : (column : ℕ) (columns : List Column) (row : List (List ℕ)) → map kind_of (values_from column columns row) ≡ column_kinds columns
+kinds-values_from column [] row = refl
+kinds-values_from column (this ∷ columns) row =
+    rw (kind-value_of this.kind (field row column)) (ap (λ (kinds : List Kind). this.kind ∷ kinds) (kinds-values_from (suc column) columns row))
+
+pub rows_of_cells : (columns : List Column) (rows : List (List (List ℕ)))
+    → rows_of (length rows) (length columns) (flat_map (values_from 0 columns) rows) ≡ map (values_from 0 columns) rows
+unfolding rows_of
+rows_of_cells columns [] = refl
+rows_of_cells columns (row ∷ rows) =
+    let values = values_from 0 columns row in
+    let rest = flat_map (values_from 0 columns) rows in
+    let width = length-values_from 0 columns row in
+    rw (take_at values rest (length columns) width, drop_at values rest (length columns) width)
+    (ap (λ (more : List (List Value)). values ∷ more) (rows_of_cells columns rows))
+
+length-cells : (columns : List Column) (rows : List (List (List ℕ))) → length (flat_map (values_from 0 columns) rows) ≡ length rows * length columns
+length-cells columns [] = sym (zero-mul (length columns))
+length-cells columns (row ∷ rows) =
+    let rest = length-cells columns rows in
+    let width = length-values_from 0 columns row in
+    let whole = length-append (values_from 0 columns row) (flat_map (values_from 0 columns) rows) in
+    let times = suc-mul (length rows) (length columns) in
+    omega arith
+
+pub is_kept : (columns : List Column) (rows : List (List (List ℕ))) → IsSchema columns → length rows ≤ ROW_LIMIT
+    → length rows * length columns ≤ CELL_LIMIT → IsKept columns (length rows) (flat_map (values_from 0 columns) rows)
+is_kept columns rows schema few cells = record {
+  full = length-cells columns rows;
+  sound = record {
+    columns = schema;
+    few_rows = rw (length-rows_of (length rows) (length columns) (flat_map (values_from 0 columns) rows)) few;
+    few_cells = rw (length-rows_of (length rows) (length columns) (flat_map (values_from 0 columns) rows)) cells;
+    fits = rw (rows_of_cells columns rows) (λ k d h.
+        let inside = rw (length-map rows (values_from 0 columns)) at h in
+        rw (get_or-map (values_from 0 columns) rows k [] d inside) (kinds-values_from 0 columns (get_or rows k [])));
+  };
+}
+
+-- ---- the second reading
+
+-- behind the header come the rows
+pub behind_header : (found : Bool) (header fields : List (List ℕ)) (rows left : List (List (List ℕ)))
+    → header ∷ rows ≡ (if found then fields ∷ left else []) → left ≡ rows
+behind_header true header fields rows left h = cc
+behind_header false header fields rows left h = cc
+
+-- what is known of a file that was found to be sound, and of the columns that were made of it
+pub record Built (bytes : List ℕ) (headings : List Heading) (survey : Survey) (columns : List Column) (left : List (List (List ℕ))) : Type 0 where
+  pub rows : List (List (List ℕ))
+  pub left_are : left ≡ rows
+  pub row_count : survey.row_count ≡ length rows
+  pub schema : IsSchema columns
+  pub few : length rows ≤ ROW_LIMIT
+  pub cells : length rows * length columns ≤ CELL_LIMIT
+  pub sound : list_all (are_cells 0 columns) rows ≡ true
+  pub spells : table_of bytes ≡ Ok (record { schema = columns; rows = map (values_from 0 columns) rows })
+
+pub built : (bytes : List ℕ) (headings : List Heading) (survey : Survey) (columns : List Column) (found : Bool) (fields : List (List ℕ)) (left : List (List (List ℕ)))
+    → (file : IsSoundFile bytes headings survey) → columns ≡ columns_from 0 headings file.rows
+    → records_of bytes ≡ (if found then fields ∷ left else []) → Built bytes headings survey columns left
+built bytes headings survey columns found fields left file made next =
+    let f = no_fault file.header file.rows file.sound in
+    let same : columns ≡ columns_from 0 (map heading_of file.header) file.rows = rw (← file.headings_are) made in
+    let width : length (columns_from 0 (map heading_of file.header) file.rows) ≡ length file.header =
+    length-columns_from 0 (map heading_of file.header) file.rows ∙ length-map file.header heading_of in
+    record {
+      rows = file.rows;
+      left_are = behind_header found file.header fields file.rows left (sym file.reads ∙ next);
+      row_count = file.survey_is.row_count;
+      schema = rw same (is_schema file.header file.rows f);
+      few = f.rows_few;
+      cells = rw (same, width) f.cells;
+      sound = rw same (rows_are_sound 1 (map heading_of file.header) file.rows file.rows f.bad (λ k e. e));
+      spells = rw same (spelled bytes file.header file.rows file.reads file.sound);
+    }
+
+-- the cells that the second reading made, of a slice of the same columns
+pub record Second (columns schema slice : List Column) (items : List Value) (left : List (List (List ℕ))) : Type 0 where
+  pub schema_is : schema ≡ columns
+  pub slice_is : slice ≡ columns
+  pub items_are : items ≡ flat_map (values_from 0 slice) left
+
+pub kept : (bytes : List ℕ) (headings : List Heading) (survey : Survey) (columns schema slice : List Column) (items : List Value) (left : List (List (List ℕ)))
+    → Built bytes headings survey columns left → Second columns schema slice items left → IsKept schema survey.row_count items
+kept bytes headings survey columns schema slice items left k s =
+    rw (s.schema_is, s.items_are, s.slice_is, k.left_are, k.row_count) (is_kept columns k.rows k.schema k.few k.cells)
+
+pub spells : (bytes : List ℕ) (headings : List Heading) (survey : Survey) (columns schema slice : List Column) (items : List Value) (left : List (List (List ℕ)))
+    → Built bytes headings survey columns left → Second columns schema slice items left
+    → table_of bytes ≡ Ok (table_of_cells schema survey.row_count items)
+spells bytes headings survey columns schema slice items left k s =
+    rw (s.schema_is, s.items_are, s.slice_is, k.left_are, k.row_count, rows_of_cells columns k.rows) k.spells
+
+-- ---- what the first reading says
+
+-- the header of a file and what was read of it and of the rows behind it
+pub record Read (bytes : List ℕ) (header : List (List ℕ)) (rows : List (List (List ℕ))) (headings : List Heading) (survey : Survey) : Type 0 where
+  pub reads : records_of bytes ≡ header ∷ rows
+  pub columns : length header ≤ COLUMN_LIMIT
+  pub names : bad_name 1 [] (map name_of header) ≡ None
+  pub headings_are : headings ≡ map heading_of header
+  pub few : length rows ≤ ROW_LIMIT
+  pub survey_is : IsSurvey headings rows survey
+
+pub fault_of_survey : (bytes : List ℕ) (header : List (List ℕ)) (rows : List (List (List ℕ))) (headings : List Heading) (survey : Survey)
+    → Read bytes header rows headings survey → (fault : Option TableFault)
+    → fault ≡ later_faults survey.row_count (length headings) survey.uneven survey.bad_cell → first_of (faults_of header rows) ≡ fault
+fault_of_survey bytes header rows headings survey r fault e =
+    let now = rw (r.survey_is.row_count, r.survey_is.uneven, r.survey_is.bad_cell, r.headings_are, length-map header heading_of) at e in
+    later_first header rows fault r.columns r.names r.few now
+
+pub sound_file : (bytes : List ℕ) (header : List (List ℕ)) (rows : List (List (List ℕ))) (headings : List Heading) (survey : Survey)
+    → Read bytes header rows headings survey → later_faults survey.row_count (length headings) survey.uneven survey.bad_cell ≡ None
+    → IsSoundFile bytes headings survey
+sound_file bytes header rows headings survey r e = record {
+  header = header;
+  rows = rows;
+  reads = r.reads;
+  headings_are = r.headings_are;
+  survey_is = r.survey_is;
+  sound = fault_of_survey bytes header rows headings survey r None (sym e);
+}

@@ -1,0 +1,46 @@
+-- What the first reading of the data rows finds.
+use Rattle.std.specs.Prelude.{◌≡◌, ℕ, suc, ◌+◌, ◌<◌, ◌==◌, Bool, true, false, ◌&&◌, if◌then◌else◌, List, [], ◌∷◌, length, map, replicate, slice_index_or, option_map, None, Some}
+use Rattle.std.specs.Option.{option_or}
+use Rattle.csv_tables.specs.Cells.{all_numbers, bad_column, field}
+use Rattle.csv_tables.specs.Numbers.{is_whole_number}
+use Rattle.csv_tables.specs.Headers.{heading_of}
+use Rattle.csv_tables.specs.Reading.{records_of}
+use Rattle.csv_tables.specs.Spelled.{bad_cell, faults_of, first_of, uneven_row}
+use Rattle.csv_tables.specs.declared.header.Heading.{Heading}
+use Rattle.csv_tables.specs.declared.survey.Survey.{Survey}
+
+-- which columns, from this one on, still hold nothing but numbers after a row
+abbrev pub numbers_after : ℕ → List Bool → List (List ℕ) → List Bool
+numbers_after column [] row = []
+numbers_after column (so_far ∷ numbers) row = (so_far && is_whole_number (field row column)) ∷ numbers_after (suc column) numbers row
+
+-- a survey of no row, for so many columns
+pub record IsNew (column_count : ℕ) (survey : Survey) : Type 0 where
+  pub row_count : survey.row_count ≡ 0
+  pub uneven : survey.uneven ≡ None
+  pub bad_cell : survey.bad_cell ≡ None
+  pub numbers : survey.numbers.items ≡ replicate column_count true
+
+-- a survey notes a row more
+pub record Notes (headings : List Heading) (row : List (List ℕ)) (old new : Survey) : Type 0 where
+  pub row_count : new.row_count ≡ old.row_count + 1
+  pub uneven : new.uneven ≡ option_or old.uneven (if length row == length headings then None else Some new.row_count)
+  pub bad_cell : new.bad_cell ≡ option_or old.bad_cell (option_map (λ column. (new.row_count, column)) (bad_column 0 headings row))
+  pub numbers : new.numbers.items ≡ numbers_after 0 old.numbers.items row
+
+-- a survey of these rows
+pub record IsSurvey (headings : List Heading) (rows : List (List (List ℕ))) (survey : Survey) : Type 0 where
+  pub row_count : survey.row_count ≡ length rows
+  pub uneven : survey.uneven ≡ uneven_row 1 (length headings) rows
+  pub bad_cell : survey.bad_cell ≡ bad_cell 1 headings rows
+  pub one_each : length survey.numbers.items ≡ length headings
+  pub numbers : (column : ℕ) → column < length headings → slice_index_or survey.numbers.items column false ≡ all_numbers column rows
+
+-- the survey of a file that spells a table, under these headings
+pub record IsSoundFile (bytes : List ℕ) (headings : List Heading) (survey : Survey) : Type 0 where
+  pub header : List (List ℕ)
+  pub rows : List (List (List ℕ))
+  pub reads : records_of bytes ≡ header ∷ rows
+  pub headings_are : headings ≡ map heading_of header
+  pub survey_is : IsSurvey headings rows survey
+  pub sound : first_of (faults_of header rows) ≡ None

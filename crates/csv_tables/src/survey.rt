@@ -1,0 +1,142 @@
+//! The first reading of the data rows: how many there are, which are no rows of the table, and which columns hold
+//! nothing but numbers.
+//!
+//! It keeps no cell, so that a file with too much in it costs no memory. The one way in is `survey`.
+ghost use Rattle.std.specs.Prelude.{◌≡◌, ◌≢◌, ◌≤◌, ◌<◌, ◌&&◌, IfErr, IfOk, length};
+ghost use Rattle.std.specs.Str.{is_utf8};
+ghost use Rattle.csv.specs.Records.{fields_of};
+ghost use Rattle.row_values.specs.declared.columns.TheConstants.{COLUMN_LIMIT};
+ghost use Rattle.csv_tables.specs.Cells.{bad_column, may_stand};
+ghost use Rattle.csv_tables.specs.Numbers.{is_whole_number};
+ghost use Rattle.csv_tables.specs.Surveys.{IsNew, IsSurvey, Notes, numbers_after};
+ghost use Rattle.csv_tables.specs.declared.faults.TableFault.TheVariants.{Memory, Rows};
+ghost use Rattle.csv_tables.specs.declared.table.TheConstants.{ROW_LIMIT};
+
+use crate::faults::TableFault;
+use crate::header::{Heading, field};
+use crate::numbers::whole_number;
+use crate::records::Records;
+use crate::table::ROW_LIMIT;
+use csv::ByteRecord;
+use row_values::Kind;
+use std::alloc::Global;
+use std::str;
+
+/// What the first reading found.
+#[derive(Debug, Drop)]
+pub(crate) struct Survey {
+    pub(crate) row_count: u32,
+    pub(crate) uneven: Option<u32>,
+    pub(crate) bad_cell: Option<(u32, u32)>,
+    /// For each column whether each cell so far is a whole number.
+    pub(crate) numbers: Vec<bool>,
+}
+
+/// Whether a cell is UTF-8, as every whole number is.
+fn is_text(is_number: bool, text: &[u8]) -> bool
+    requires { is_number ≡ is_whole_number text.now }
+    ensures { result ≡ is_utf8 text.now }
+{
+    if is_number {
+        return true;
+    }
+    match str::from_utf8(text) {
+        Ok(_) => true,
+        Err(_) => false,
+    }
+}
+
+/// Whether a cell may stand under a heading with this mark. It notes whether its column still holds nothing but numbers.
+fn note_cell(mark: Option<Kind>, numbers: &mut bool, text: &[u8]) -> bool
+    ensures numbers { numbers.new ≡ (numbers.old && is_whole_number text.now) }
+    ensures stands { result ≡ may_stand mark text.now }
+{
+    let is_number = whole_number(text).is_some();
+    *numbers = *numbers && is_number;
+    match mark {
+        Some(Kind::Int) => is_number,
+        Some(Kind::Text) => is_text(is_number, text),
+        None => is_text(is_number, text),
+    }
+}
+
+/// The number of the first column whose cell in this row may not stand there, if any. It notes which columns still
+/// hold nothing but numbers.
+fn note_cells(headings: &[Heading], numbers: &mut [bool], row: &ByteRecord) -> Option<u32>
+    requires one_each { length numbers.old ≡ length headings.now }
+    requires few { length headings.now ≤ COLUMN_LIMIT }
+    ensures bad { result ≡ bad_column 0 headings.now (fields_of row.now) }
+    ensures numbers { numbers.new ≡ numbers_after 0 numbers.old (fields_of row.now) }
+{
+    let mut bad = None;
+    for (column, heading) in headings.iter().enumerate() {
+        let stands = note_cell(heading.mark, &mut numbers[column], field(row, column));
+        if !stands && bad.is_none() {
+            bad = Some(column as u32 + 1);
+        }
+    }
+    bad
+}
+
+impl Survey {
+    /// The survey of no row, for so many columns.
+    fn new(alloc: Global, column_count: usize) -> Result<Survey, TableFault>
+        ensures ok { IfOk result (λ survey. IsNew column_count survey) }
+        ensures fault { IfErr result (λ fault. fault ≡ Memory) }
+    {
+        let mut numbers = Vec::new(alloc);
+        for _ in 0..column_count {
+            numbers.push(true)?;
+        }
+        Ok(Survey {
+            row_count: 0,
+            uneven: None,
+            bad_cell: None,
+            numbers,
+        })
+    }
+
+    /// Notes a row more.
+    fn note(&mut self, headings: &[Heading], row: &ByteRecord)
+        requires room { self.old.row_count < ROW_LIMIT }
+        requires one_each { length self.old.numbers.items ≡ length headings.now }
+        requires few { length headings.now ≤ COLUMN_LIMIT }
+        ensures { Notes headings.now (fields_of row.now) self.old self.new }
+    {
+        let number = self.row_count + 1;
+        self.row_count = number;
+        let uneven = if row.len() == headings.len() {
+            None
+        } else {
+            Some(number)
+        };
+        self.uneven = self.uneven.or(uneven);
+        let bad = note_cells(headings, self.numbers.as_mut_slice(), row);
+        self.bad_cell = self.bad_cell.or(bad.map(|column| (number, column)));
+    }
+}
+
+/// The survey of the records that are left. It reads at most one row more than a table may have.
+pub(crate) fn survey_rows(
+    alloc: Global,
+    headings: &[Heading],
+    records: &mut Records<'_>,
+    row: &mut ByteRecord,
+) -> Result<Survey, TableFault>
+    requires { length headings.now ≤ COLUMN_LIMIT }
+    ensures ok { IfOk result (λ survey. IsSurvey headings.now records.old survey) }
+    ensures few { IfOk result (λ survey. length records.old ≤ ROW_LIMIT) }
+    ensures fault { IfErr result (λ fault. fault ≢ Memory → (fault ≡ Rows) × (ROW_LIMIT < length records.old)) }
+{
+    let mut survey = Survey::new(alloc, headings.len())?;
+    for _ in 0..ROW_LIMIT {
+        if !records.next(row)? {
+            return Ok(survey);
+        }
+        survey.note(headings, row);
+    }
+    if records.next(row)? {
+        return Err(TableFault::Rows);
+    }
+    Ok(survey)
+}
