@@ -117,3 +117,7 @@ file_for old files (Says (Load table name)) = if is_some (find_table old.tables 
 file_for old files (Says (Prepare name select)) = None
 file_for old files (Says (Run name args)) = None
 file_for old files (Says NotBuilt) = None
+
+-- there is a step: some reply and some state after it
+abbrev pub CanStep : State → Reading → Option (List ℕ) → Type 0
+CanStep old reading file = (answer : Reply) × (new : State) × Step old reading file answer new

@@ -17,3 +17,5 @@ pub const HELD_BYTE_LIMIT: usize = 268435456;
 pub const RESULT_LIMIT: usize = 1000000;
 /// The unit of cost, 2^40: costs are whole numbers of this part of reading a row.
 pub const COST_SCALE: u128 = 1099511627776;
+
+pub mod laws;
