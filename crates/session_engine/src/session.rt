@@ -1,6 +1,6 @@
 //! The engine's state, and the step of each command.
-ghost use Rattle.std.specs.Prelude.{◌≡◌, ◌≢◌, ◌+◌, ◌≤◌, ◌<◌, ◌^◌, ◌∷◌, [], IfOk, OnErr, option_map, length, slice_get, is_some, None, max};
-ghost use Rattle.script_report.specs.Commands.{Says};
+ghost use Rattle.std.specs.Prelude.{◌≡◌, ◌≢◌, ◌+◌, ◌≤◌, ◌<◌, ◌^◌, ◌∷◌, [], IfOk, OnErr, option_map, length, slice_get, is_some, None, max, ℕ, List, Option};
+ghost use Rattle.script_report.specs.Commands.{Bad, Says};
 ghost use Rattle.session_model.specs.Meaning as meaning;
 ghost use Rattle.session_model.specs.Faults.{fault_text as shown_fault};
 ghost use Rattle.session_model.specs.State.{initial_state, find_table};
@@ -10,8 +10,8 @@ use crate::execution::{count_below, lines_below, plan_text};
 use csv_tables::{Table, TableFault, read_table};
 use outside_model::FILE_LIMIT;
 use row_values::{
-    Column, FILE_TOO_LONG, Kind, MISSING_FILE, NOT_A_TABLE, NOT_BUILT, Refusal, UNKNOWN_TABLE,
-    Value, Words,
+    Column, FILE_TOO_LONG, Kind, MISSING_FILE, NOT_A_TABLE, NOT_BUILT, Refusal, SYNTAX,
+    UNKNOWN_TABLE, Value, Words,
 };
 use script_report::{Command, Execution, Reply};
 use session_model::{COST_SCALE, RESULT_LIMIT};
@@ -113,6 +113,14 @@ impl Engine {
             store: Store::new(alloc),
             executions: 0,
         }
+    }
+
+    /// The answer to a line that is none of the language. It changes nothing and takes no memory.
+    #[tactic(auto, unfolding(session_model::specs::Step::Step))]
+    pub fn refuse_syntax(&self, alloc: Global) -> Reply
+        ensures { (file : Option (List ℕ)) → Step self.now Bad file result self.now }
+    {
+        refused(alloc, SYNTAX)
     }
 
     /// Whether a table of this name is loaded.

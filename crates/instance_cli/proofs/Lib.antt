@@ -1,0 +1,2 @@
+mod FileFacts
+pub mod Runs
