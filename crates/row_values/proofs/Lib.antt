@@ -1,2 +1,3 @@
 mod WholeNumbers
+pub mod Letters
 pub mod Parameters

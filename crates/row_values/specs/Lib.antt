@@ -1,4 +1,5 @@
 pub mod Columns
+pub mod Names
 pub mod Numbers
 pub mod Plain
 pub mod Refusals

@@ -8,6 +8,7 @@ mod columns;
 mod numbers;
 mod plain;
 mod refusals;
+mod spelling;
 mod statement;
 mod text;
 mod values;
@@ -21,9 +22,10 @@ pub use refusals::{
     TOO_MANY_ROWS, UNKNOWN_COLUMN, UNKNOWN_CURSOR, UNKNOWN_PLAN, UNKNOWN_STATEMENT, UNKNOWN_TABLE,
     WIDE, refusal_words,
 };
+pub use spelling::{canonical_name, push_name};
 pub use statement::{
     CONDITION_LIMIT, ColRef, Edge, ITEM_LIMIT, Item, KEY_LIMIT, Operand, OrderKey, PLACE_LIMIT,
-    Place, Pred, SELECTIVITY_LIMIT, Test,
+    Place, Pred, Query, SELECTIVITY_LIMIT, Test,
 };
 pub use text::Words;
 pub use values::{Args, Kind, Value, compare};

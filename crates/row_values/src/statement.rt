@@ -4,6 +4,7 @@
 //! field by field. `Query::make` is the one way in.
 ghost use Rattle.std.specs.Prelude.{◌≡◌, ◌≤◌, ◌<◌, ◌*◌, ◌^◌, ◌+◌, ◌==◌, ◌++◌, ℕ, List, [], ◌∷◌, false, not, ◌↔◌, IfSome, IsSome, IsTrue, MatchOption, All, length, map};
 ghost use Rattle.std.specs.Option.{option_map};
+ghost use Rattle.row_values.specs.Columns.{IsSchema};
 ghost use Rattle.row_values.specs.Statements.{IsSoundQuery, statement_of, IsOperand, IsTest, IsPred, IsEdge, IsItem, IsColumn, AreGrouped, kind_at, kinds_of, is_alias_in, are_aliases, is_among, is_grouped_item, is_plain, selectivity_count, operand_parameters, test_parameters, parameters_of, are_numbered};
 
 use crate::columns::Schema;
@@ -196,9 +197,12 @@ fn has_alias(places: &[Place], alias: &Words) -> bool
 
 /// Whether no alias is empty or stands twice.
 fn aliases_differ(places: &[Place]) -> bool
-    ensures { result ≡ are_aliases places.now }
+    ensures value { result ≡ are_aliases places.now }
+    ensures schemas { IsTrue result → All (λ place. IsSchema place.schema) places.now }
 {
     for (i, place) in places.iter().enumerate() {
+        // What every schema is, the statement's readers pass on: so it is read here once.
+        let _ = place.schema.columns();
         if place.alias.as_str().is_empty() {
             return false;
         }
@@ -295,7 +299,10 @@ fn is_parameterised(test: &Test) -> bool
 fn number_after(next: usize, operand: &Operand) -> Option<usize>
     requires { next < 2 ^ 32 }
     ensures bound { IfSome result (λ after. after ≤ next + 1) }
-    ensures value { (rest : List ℕ) → MatchOption result (are_numbered next (operand_parameters operand.now ++ rest) ≡ false) (λ after. are_numbered next (operand_parameters operand.now ++ rest) ≡ are_numbered after rest) }
+    ensures value { (rest : List ℕ) → MatchOption result
+        (are_numbered next (operand_parameters operand.now ++ rest) ≡ false)
+        (λ after. are_numbered next (operand_parameters operand.now ++ rest)
+        ≡ are_numbered after rest) }
 {
     match operand {
         Operand::Literal(_) => Some(next),
@@ -313,7 +320,9 @@ fn number_after(next: usize, operand: &Operand) -> Option<usize>
 fn number_after_test(next: usize, test: &Test) -> Option<usize>
     requires { next < 2 ^ 31 }
     ensures bound { IfSome result (λ after. after ≤ next + 2) }
-    ensures value { (rest : List ℕ) → MatchOption result (are_numbered next (test_parameters test.now ++ rest) ≡ false) (λ after. are_numbered next (test_parameters test.now ++ rest) ≡ are_numbered after rest) }
+    ensures value { (rest : List ℕ) → MatchOption result
+        (are_numbered next (test_parameters test.now ++ rest) ≡ false)
+        (λ after. are_numbered next (test_parameters test.now ++ rest) ≡ are_numbered after rest) }
 {
     match test {
         Test::Lt(a) => number_after(next, a),
@@ -441,14 +450,20 @@ pub struct Query {
 }
 
 impl Model for Query {
-    ghost use Rattle.std.specs.Prelude.{◌≡◌};
+    ghost use Rattle.std.specs.Prelude.{◌≡◌, All};
+    ghost use Rattle.row_values.specs.Columns.{IsSchema};
     ghost use Rattle.row_values.specs.Statements.{Statement, statement_of, IsSoundQuery, kinds_of};
 
     ghost Value = { Statement };
 
-    ghost view = { λ q. statement_of q.places.items q.preds.items q.edges.items q.items.items q.groups.items q.order.items };
+    ghost view = { λ q. statement_of q.places.items q.preds.items q.edges.items
+        q.items.items q.groups.items q.order.items };
 
-    ghost invariant = { λ q. IsSoundQuery (statement_of q.places.items q.preds.items q.edges.items q.items.items q.groups.items q.order.items) × (q.kinds ≡ kinds_of q.places.items q.preds.items) };
+    ghost invariant = { λ q. IsSoundQuery
+        (statement_of q.places.items q.preds.items q.edges.items
+        q.items.items q.groups.items q.order.items)
+        × All (λ place. IsSchema place.schema) q.places.items
+        × (q.kinds ≡ kinds_of q.places.items q.preds.items) };
 }
 
 /// Whether the parts go together and are within the limits.
@@ -460,7 +475,9 @@ fn is_sound(
     groups: &[ColRef],
     order: &[OrderKey],
 ) -> bool
-    ensures { IsTrue result ↔ IsSoundQuery (statement_of places.now preds.now edges.now items.now groups.now order.now) }
+    ensures value { IsTrue result ↔ IsSoundQuery
+        (statement_of places.now preds.now edges.now items.now groups.now order.now) }
+    ensures schemas { IsTrue result → All (λ place. IsSchema place.schema) places.now }
 {
     if places.is_empty() || places.len() > PLACE_LIMIT || !aliases_differ(places) {
         return false;
@@ -496,8 +513,10 @@ impl Query {
         groups: Vec<ColRef>,
         order: Vec<OrderKey>,
     ) -> Option<Query>
-        ensures value { IfSome result (λ q. q ≡ statement_of places.items preds.items edges.items items.items groups.items order.items) }
-        ensures found { IsSome result ↔ IsSoundQuery (statement_of places.items preds.items edges.items items.items groups.items order.items) }
+        ensures value { IfSome result (λ q. q
+            ≡ statement_of places.items preds.items edges.items items.items groups.items order.items) }
+        ensures found { IsSome result ↔ IsSoundQuery
+            (statement_of places.items preds.items edges.items items.items groups.items order.items) }
     {
         if !is_sound(&places, &preds, &edges, &items, &groups, &order) {
             return None;
@@ -518,6 +537,7 @@ impl Query {
     pub fn places(&self) -> &[Place]
         ensures value { result.now ≡ self.now.places }
         ensures sound { IsSoundQuery self.now }
+        ensures schemas { All (λ place. IsSchema place.schema) self.now.places }
     {
         self.places.as_slice()
     }
