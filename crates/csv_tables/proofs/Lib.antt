@@ -7,3 +7,4 @@ pub mod Sound
 pub mod Spelled
 pub mod Surveyed
 pub mod Texts
+pub mod Widths

@@ -30,10 +30,10 @@ step_ends st.InComment c h = search rules
 step_ends st.AfterCr c h = search (rules, start_record_ends)
 
 -- what a record leaves: fewer bytes, between two records
-record Shrinks (s : State) (bytes : List ℕ) (read : Read) : Type 0 where
-  between : ends_at_end read.1 ≡ false
-  weakly : length read.2 ≤ length bytes
-  less : ends_at_end s ≡ false → length read.2 < length bytes
+pub record Shrinks (s : State) (bytes : List ℕ) (read : Read) : Type 0 where
+  pub between : ends_at_end read.1 ≡ false
+  pub weakly : length read.2 ≤ length bytes
+  pub less : ends_at_end s ≡ false → length read.2 < length bytes
 
 same_read : (a b : Read) → Some a ≡ Some b → a ≡ b
 same_read a b e = cc
@@ -45,7 +45,7 @@ shrinks_by_byte : (s after : State) (c : ℕ) (rest : List ℕ) (fields : List (
     → Shrinks s (c ∷ rest) (fields, after, rest)
 shrinks_by_byte s after c rest fields e = record { between = e; weakly = omega arith; less = λ _. omega arith }
 
-shrinks : (s : State) (fields : List (List ℕ)) (field : List ℕ) (bytes : List ℕ) (read : Read)
+pub shrinks : (s : State) (fields : List (List ℕ)) (field : List ℕ) (bytes : List ℕ) (read : Read)
     → next_record default_config s fields field bytes ≡ Some read → Shrinks s bytes read
 unfolding next_record
 shrinks s fields field [] read h =

@@ -14,16 +14,16 @@ use Rattle.row_values.specs.declared.values.Value.{Value}
 use Rattle.csv_tables.specs.Cells.{all_numbers, are_cells, bad_column, columns_from, field, is_cell, is_number_column, kind_by, may_stand, value_of, values_from}
 use Rattle.csv_tables.specs.Headers.{bad_name, heading_of, is_bad_name, name_of}
 use Rattle.csv_tables.specs.Numbers.{is_whole_number}
-use Rattle.csv_tables.specs.Spelled.{bad_cell, cell_in_row, faults_of, first_of, table_of}
+use Rattle.csv_tables.specs.Spelled.{bad_cell, cell_in_row, faults_of, first_of, table_of, uneven_row}
 use Rattle.csv_tables.specs.Reading.{records_of}
 use Rattle.csv_tables.specs.Surveys.{IsSoundFile, IsSurvey}
 use Rattle.csv_tables.specs.declared.survey.Survey.{Survey}
 use Rattle.csv_tables.specs.Tables.{IsKept, column_kinds, rows_of, table_of_cells}
-use Rattle.csv_tables.specs.declared.faults.TableFault.{TableFault}
+use Rattle.csv_tables.specs.declared.faults.TableFault.TheVariants.{BadCell}
 use Rattle.csv_tables.specs.declared.header.Heading.{Heading}
 use Rattle.csv_tables.specs.declared.table.TheConstants.{CELL_LIMIT, ROW_LIMIT}
 use Rattle.csv_tables.proofs.Rows.{length-rows_of}
-use Rattle.csv_tables.proofs.Spelled.{NoFault, later_faults, later_first, no_fault, spelled}
+use Rattle.csv_tables.proofs.Spelled.{NoFault, cell_first, no_fault, shape_faults, spelled}
 use Rattle.csv_tables.proofs.Texts.{first_and, second_and}
 
 -- ---- each cell is one of its column's kind
@@ -223,32 +223,29 @@ pub spells : (bytes : List ℕ) (headings : List Heading) (survey : Survey) (col
 spells bytes headings survey columns schema slice items left k s =
     rw (s.schema_is, s.items_are, s.slice_is, k.left_are, k.row_count, rows_of_cells columns k.rows) k.spells
 
--- ---- what the first reading says
+-- ---- what the readings say
 
--- the header of a file and what was read of it and of the rows behind it
-pub record Read (bytes : List ℕ) (header : List (List ℕ)) (rows : List (List (List ℕ))) (headings : List Heading) (survey : Survey) : Type 0 where
+-- the header and the rows of a file, where its header and its shape have no fault
+pub record Read (bytes : List ℕ) (header : List (List ℕ)) (rows : List (List (List ℕ))) (headings : List Heading) : Type 0 where
   pub reads : records_of bytes ≡ header ∷ rows
   pub columns : length header ≤ COLUMN_LIMIT
   pub names : bad_name 1 [] (map name_of header) ≡ None
   pub headings_are : headings ≡ map heading_of header
-  pub few : length rows ≤ ROW_LIMIT
-  pub survey_is : IsSurvey headings rows survey
+  pub shape : shape_faults (length rows) (length header) (uneven_row 1 (length header) rows) ≡ None
 
-pub fault_of_survey : (bytes : List ℕ) (header : List (List ℕ)) (rows : List (List (List ℕ))) (headings : List Heading) (survey : Survey)
-    → Read bytes header rows headings survey → (fault : Option TableFault)
-    → fault ≡ later_faults survey.row_count (length headings) survey.uneven survey.bad_cell → first_of (faults_of header rows) ≡ fault
-fault_of_survey bytes header rows headings survey r fault e =
-    let now = rw (r.survey_is.row_count, r.survey_is.uneven, r.survey_is.bad_cell, r.headings_are, length-map header heading_of) at e in
-    later_first header rows fault r.columns r.names r.few now
+pub cell_fault_is_first : (bytes : List ℕ) (header : List (List ℕ)) (rows : List (List (List ℕ))) (headings : List Heading) (survey : Survey) (at : ℕ × ℕ)
+    → Read bytes header rows headings → IsSurvey headings rows survey → survey.bad_cell ≡ Some at
+    → first_of (faults_of header rows) ≡ Some (BadCell at.0 at.1)
+cell_fault_is_first bytes header rows headings survey at r s e =
+    cell_first header rows (Some at) r.columns r.names r.shape (rw r.headings_are at (sym s.bad_cell) ∙ e)
 
 pub sound_file : (bytes : List ℕ) (header : List (List ℕ)) (rows : List (List (List ℕ))) (headings : List Heading) (survey : Survey)
-    → Read bytes header rows headings survey → later_faults survey.row_count (length headings) survey.uneven survey.bad_cell ≡ None
-    → IsSoundFile bytes headings survey
-sound_file bytes header rows headings survey r e = record {
+    → Read bytes header rows headings → IsSurvey headings rows survey → survey.bad_cell ≡ None → IsSoundFile bytes headings survey
+sound_file bytes header rows headings survey r s e = record {
   header = header;
   rows = rows;
   reads = r.reads;
   headings_are = r.headings_are;
-  survey_is = r.survey_is;
-  sound = fault_of_survey bytes header rows headings survey r None (sym e);
+  survey_is = s;
+  sound = cell_first header rows None r.columns r.names r.shape (rw r.headings_are at (sym s.bad_cell) ∙ e);
 }

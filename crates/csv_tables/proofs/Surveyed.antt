@@ -13,7 +13,6 @@ use Rattle.csv_tables.specs.declared.survey.Survey.{Survey}
 -- what the survey found and the rows that are left decide as all the rows do
 pub record SurveysRest (headings : List Heading) (all rest : List (List (List ℕ))) (survey : Survey) : Type 0 where
   pub row_count : survey.row_count + length rest ≡ length all
-  pub uneven : option_or survey.uneven (uneven_row (survey.row_count + 1) (length headings) rest) ≡ uneven_row 1 (length headings) all
   pub bad_cell : option_or survey.bad_cell (bad_cell (survey.row_count + 1) headings rest) ≡ bad_cell 1 headings all
   pub one_each : length survey.numbers.items ≡ length headings
   pub numbers : (column : ℕ) → column < length headings
@@ -22,7 +21,6 @@ pub record SurveysRest (headings : List Heading) (all rest : List (List (List �
 pub at_start : (headings : List Heading) (all : List (List (List ℕ))) (survey : Survey) → IsNew (length headings) survey → SurveysRest headings all all survey
 at_start headings all survey new = record {
   row_count = rw new.row_count (zero-add (length all));
-  uneven = rw (new.row_count, new.uneven) refl;
   bad_cell = rw (new.row_count, new.bad_cell) refl;
   one_each = rw new.numbers (length-replicate (length headings) true);
   numbers = λ column h. rw (new.numbers, get_or-replicate (length headings) column true false h) refl;
@@ -32,20 +30,19 @@ no_more : (b : Bool) → (b && true) ≡ b
 no_more true = refl
 no_more false = refl
 
-none_later : {T : Type 0} → (found : Option T) → option_or found None ≡ found
+pub none_later : {T : Type 0} → (found : Option T) → option_or found None ≡ found
 none_later None = refl
 none_later (Some found) = refl
 
 pub at_end : (headings : List Heading) (all : List (List (List ℕ))) (survey : Survey) → SurveysRest headings all [] survey → IsSurvey headings all survey
 at_end headings all survey rest = record {
   row_count = sym (add-zero survey.row_count) ∙ rest.row_count;
-  uneven = sym (none_later survey.uneven) ∙ rest.uneven;
   bad_cell = sym (none_later survey.bad_cell) ∙ rest.bad_cell;
   one_each = rest.one_each;
   numbers = λ column h. sym (no_more (get_or survey.numbers.items column false)) ∙ rest.numbers column h;
 }
 
-uneven_step : (found : Option ℕ) (n width : ℕ) (row : List (List ℕ)) (rest : List (List (List ℕ)))
+pub uneven_step : (found : Option ℕ) (n width : ℕ) (row : List (List ℕ)) (rest : List (List (List ℕ)))
     → option_or (option_or found (if length row == width then None else Some n)) (uneven_row (n + 1) width rest) ≡ option_or found (uneven_row n width (row ∷ rest))
 uneven_step (Some found) n width row rest = refl
 uneven_step None n width row rest = elim (cases_Bool (length row == width)) [ inl e ↦ rw (e, add-one n) refl | inr e ↦ rw e refl ]
@@ -74,7 +71,6 @@ pub step : (headings : List Heading) (all rest : List (List (List ℕ))) (row : 
     → SurveysRest headings all (row ∷ rest) old → Notes headings row old new → SurveysRest headings all rest new
 step headings all rest row old new was notes = record {
   row_count = let next : old.row_count + 1 + length rest ≡ old.row_count + suc (length rest) = omega arith in rw notes.row_count (next ∙ was.row_count);
-  uneven = rw (notes.uneven, notes.row_count) (uneven_step old.uneven (old.row_count + 1) (length headings) row rest ∙ was.uneven);
   bad_cell = rw (notes.bad_cell, notes.row_count, add-one (old.row_count + 1))
       (in_row old.bad_cell (old.row_count + 1) (bad_column 0 headings row) (bad_cell (suc (old.row_count + 1)) headings rest) ∙ was.bad_cell);
   one_each = rw notes.numbers (numbers_length 0 old.numbers.items row ∙ was.one_each);

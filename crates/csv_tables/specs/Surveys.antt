@@ -1,11 +1,11 @@
--- What the first reading of the data rows finds.
-use Rattle.std.specs.Prelude.{◌≡◌, ℕ, suc, ◌+◌, ◌<◌, ◌==◌, Bool, true, false, ◌&&◌, if◌then◌else◌, List, [], ◌∷◌, length, map, replicate, slice_index_or, option_map, None, Some}
+-- What a first reading of the data rows finds.
+use Rattle.std.specs.Prelude.{◌≡◌, ℕ, suc, ◌+◌, ◌<◌, Bool, true, false, ◌&&◌, List, [], ◌∷◌, length, map, replicate, slice_index_or, option_map, None}
 use Rattle.std.specs.Option.{option_or}
 use Rattle.csv_tables.specs.Cells.{all_numbers, bad_column, field}
 use Rattle.csv_tables.specs.Numbers.{is_whole_number}
 use Rattle.csv_tables.specs.Headers.{heading_of}
 use Rattle.csv_tables.specs.Reading.{records_of}
-use Rattle.csv_tables.specs.Spelled.{bad_cell, faults_of, first_of, uneven_row}
+use Rattle.csv_tables.specs.Spelled.{bad_cell, faults_of, first_of}
 use Rattle.csv_tables.specs.declared.header.Heading.{Heading}
 use Rattle.csv_tables.specs.declared.survey.Survey.{Survey}
 
@@ -17,21 +17,18 @@ numbers_after column (so_far ∷ numbers) row = (so_far && is_whole_number (fiel
 -- a survey of no row, for so many columns
 pub record IsNew (column_count : ℕ) (survey : Survey) : Type 0 where
   pub row_count : survey.row_count ≡ 0
-  pub uneven : survey.uneven ≡ None
   pub bad_cell : survey.bad_cell ≡ None
   pub numbers : survey.numbers.items ≡ replicate column_count true
 
 -- a survey notes a row more
 pub record Notes (headings : List Heading) (row : List (List ℕ)) (old new : Survey) : Type 0 where
   pub row_count : new.row_count ≡ old.row_count + 1
-  pub uneven : new.uneven ≡ option_or old.uneven (if length row == length headings then None else Some new.row_count)
   pub bad_cell : new.bad_cell ≡ option_or old.bad_cell (option_map (λ column. (new.row_count, column)) (bad_column 0 headings row))
   pub numbers : new.numbers.items ≡ numbers_after 0 old.numbers.items row
 
 -- a survey of these rows
 pub record IsSurvey (headings : List Heading) (rows : List (List (List ℕ))) (survey : Survey) : Type 0 where
   pub row_count : survey.row_count ≡ length rows
-  pub uneven : survey.uneven ≡ uneven_row 1 (length headings) rows
   pub bad_cell : survey.bad_cell ≡ bad_cell 1 headings rows
   pub one_each : length survey.numbers.items ≡ length headings
   pub numbers : (column : ℕ) → column < length headings → slice_index_or survey.numbers.items column false ≡ all_numbers column rows

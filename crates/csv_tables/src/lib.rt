@@ -9,9 +9,13 @@ mod header;
 mod numbers;
 mod read;
 mod records;
+mod shape;
 mod survey;
 mod table;
 
 pub use faults::TableFault;
 pub use read::read_table;
 pub use table::{CELL_LIMIT, ROW_LIMIT, Table};
+
+#[cfg(test)]
+mod tests;

@@ -1,22 +1,23 @@
-//! Reading a table: the header, a survey of the rows, and only then their cells.
+//! Reading a table: its shape, its header, a survey of its rows, and only then their cells.
 //!
-//! The bytes are read twice, since the kind of a column without a mark is known at the last row alone, and so are
-//! most faults. The first reading keeps nothing, so that what is refused costs no memory. The one way in is
+//! The bytes are read three times, since most faults and the kind of a column without a mark are known at the last
+//! row alone. Nothing is kept before the last reading, so that what is refused costs no memory. The one way in is
 //! `read_table`.
-ghost use Rattle.std.specs.Prelude.{◌≡◌, ◌≢◌, ◌≤◌, ◌∷◌, ◌*◌, [], nat_lt, Err, IfErr, IfOk, List, Ok, length, option_map, ℕ};
+ghost use Rattle.std.specs.Prelude.{◌≡◌, ◌≢◌, ◌≤◌, ◌∷◌, ◌*◌, [], nat_lt, Err, IfErr, IfOk, IfSome, List, Ok, length, option_map, ℕ};
 ghost use Rattle.row_values.specs.declared.columns.TheConstants.{COLUMN_LIMIT};
 ghost use Rattle.csv_tables.specs.Cells.{columns_from, kind_by};
 ghost use Rattle.csv_tables.specs.Spelled.{fault_if, first_of, table_of};
 ghost use Rattle.csv_tables.specs.Surveys.{IsSoundFile, IsSurvey};
-ghost use Rattle.csv_tables.specs.declared.faults.TableFault.TheVariants.{BadCell, Cells, Memory, NotCsv};
+ghost use Rattle.csv_tables.specs.declared.faults.TableFault.TheVariants.{Cells, Memory, NotCsv, Rows};
 ghost use Rattle.csv_tables.specs.declared.table.TheConstants.{CELL_LIMIT, ROW_LIMIT};
 
 use crate::cells::read_cells;
 use crate::faults::TableFault;
 use crate::header::{Heading, read_header};
 use crate::records::Records;
+use crate::shape::{Shape, shape_of};
 use crate::survey::{Survey, survey_rows};
-use crate::table::{CELL_LIMIT, Table};
+use crate::table::{CELL_LIMIT, ROW_LIMIT, Table};
 use csv::ByteRecord;
 use row_values::{COLUMN_LIMIT, Column, Kind, Schema};
 use std::alloc::{AllocError, Global};
@@ -48,21 +49,21 @@ fn columns(alloc: Global, headings: &[Heading], survey: &Survey) -> Result<Vec<C
     Ok(columns)
 }
 
-/// The first fault that a survey of few enough rows shows under these headings, if any.
-fn fault_in(headings: &[Heading], survey: &Survey) -> Option<TableFault>
-    requires rows { survey.now.row_count ≤ ROW_LIMIT }
-    requires columns { length headings.now ≤ COLUMN_LIMIT }
-    ensures { result ≡ first_of (fault_if (nat_lt CELL_LIMIT (survey.now.row_count * length headings.now)) Cells
-        ∷ option_map NotCsv survey.now.uneven ∷ option_map (λ at. BadCell at.0 at.1) survey.now.bad_cell ∷ []) }
+/// The first fault that the shape of a file shows under so many columns, if any.
+fn fault_of_shape(column_count: usize, shape: &Shape) -> Option<TableFault>
+    requires columns { column_count ≤ COLUMN_LIMIT }
+    requires uneven { IfSome shape.now.uneven (λ number. number ≤ shape.now.row_count) }
+    ensures { result ≡ first_of (fault_if (nat_lt ROW_LIMIT shape.now.row_count) Rows
+        ∷ fault_if (nat_lt CELL_LIMIT (shape.now.row_count * column_count)) Cells ∷ option_map NotCsv shape.now.uneven ∷ []) }
 {
-    if survey.row_count as usize * headings.len() > CELL_LIMIT {
+    if shape.row_count > ROW_LIMIT {
+        return Some(TableFault::Rows);
+    }
+    if shape.row_count * column_count > CELL_LIMIT {
         return Some(TableFault::Cells);
     }
-    if let Some(number) = survey.uneven {
-        return Some(TableFault::NotCsv(number));
-    }
-    match survey.bad_cell {
-        Some((number, column)) => Some(TableFault::BadCell(number, column)),
+    match shape.uneven {
+        Some(number) => Some(TableFault::NotCsv(number as u32)),
         None => None,
     }
 }
@@ -96,18 +97,24 @@ pub fn read_table(alloc: Global, bytes: &[u8]) -> Result<Table, TableFault>
     ensures table { IfOk result (λ table. table_of bytes.now ≡ Ok table) }
     ensures fault { IfErr result (λ fault. fault ≢ Memory → table_of bytes.now ≡ Err fault) }
 {
-    let mut row = ByteRecord::new(alloc);
-    let mut records = Records::of(alloc, bytes);
-    if !records.next(&mut row)? {
+    let shape = shape_of(bytes);
+    let Some(column_count) = shape.column_count else {
         return Err(TableFault::BadHeader(1));
-    }
-    if row.len() > COLUMN_LIMIT {
+    };
+    if column_count > COLUMN_LIMIT {
         return Err(TableFault::Columns);
     }
+    let mut row = ByteRecord::new(alloc);
+    let mut records = Records::of(alloc, bytes);
+    // The header.
+    let _ = records.next(&mut row)?;
     let headings = read_header(alloc, &row)?;
-    let survey = survey_rows(alloc, &headings, &mut records, &mut row)?;
-    if let Some(fault) = fault_in(&headings, &survey) {
+    if let Some(fault) = fault_of_shape(column_count, &shape) {
         return Err(fault);
+    }
+    let survey = survey_rows(alloc, &headings, shape.row_count, &mut records, &mut row)?;
+    if let Some((number, column)) = survey.bad_cell {
+        return Err(TableFault::BadCell(number, column));
     }
     let table = build(alloc, bytes, &headings, &survey)?;
     Ok(table)

@@ -1,32 +1,28 @@
-//! The first reading of the data rows: how many there are, which are no rows of the table, and which columns hold
+//! A first reading of the data rows, which are as long as the header: the first bad cell, and which columns hold
 //! nothing but numbers.
 //!
-//! It keeps no cell, so that a file with too much in it costs no memory. The one way in is `survey`.
-ghost use Rattle.std.specs.Prelude.{◌≡◌, ◌≢◌, ◌≤◌, ◌<◌, ◌&&◌, IfErr, IfOk, length};
+//! It keeps no cell. The one way in is `survey_rows`.
+ghost use Rattle.std.specs.Prelude.{◌≡◌, ◌≤◌, ◌<◌, ◌&&◌, IfOk, length};
 ghost use Rattle.std.specs.Str.{is_utf8};
 ghost use Rattle.csv.specs.Records.{fields_of};
 ghost use Rattle.row_values.specs.declared.columns.TheConstants.{COLUMN_LIMIT};
 ghost use Rattle.csv_tables.specs.Cells.{bad_column, may_stand};
 ghost use Rattle.csv_tables.specs.Numbers.{is_whole_number};
 ghost use Rattle.csv_tables.specs.Surveys.{IsNew, IsSurvey, Notes, numbers_after};
-ghost use Rattle.csv_tables.specs.declared.faults.TableFault.TheVariants.{Memory, Rows};
 ghost use Rattle.csv_tables.specs.declared.table.TheConstants.{ROW_LIMIT};
 
-use crate::faults::TableFault;
 use crate::header::{Heading, field};
 use crate::numbers::whole_number;
 use crate::records::Records;
-use crate::table::ROW_LIMIT;
 use csv::ByteRecord;
 use row_values::Kind;
-use std::alloc::Global;
+use std::alloc::{AllocError, Global};
 use std::str;
 
 /// What the first reading found.
 #[derive(Debug, Drop)]
 pub(crate) struct Survey {
     pub(crate) row_count: u32,
-    pub(crate) uneven: Option<u32>,
     pub(crate) bad_cell: Option<(u32, u32)>,
     /// For each column whether each cell so far is a whole number.
     pub(crate) numbers: Vec<bool>,
@@ -80,9 +76,8 @@ fn note_cells(headings: &[Heading], numbers: &mut [bool], row: &ByteRecord) -> O
 
 impl Survey {
     /// The survey of no row, for so many columns.
-    fn new(alloc: Global, column_count: usize) -> Result<Survey, TableFault>
-        ensures ok { IfOk result (λ survey. IsNew column_count survey) }
-        ensures fault { IfErr result (λ fault. fault ≡ Memory) }
+    fn new(alloc: Global, column_count: usize) -> Result<Survey, AllocError>
+        ensures { IfOk result (λ survey. IsNew column_count survey) }
     {
         let mut numbers = Vec::new(alloc);
         for _ in 0..column_count {
@@ -90,7 +85,6 @@ impl Survey {
         }
         Ok(Survey {
             row_count: 0,
-            uneven: None,
             bad_cell: None,
             numbers,
         })
@@ -105,38 +99,30 @@ impl Survey {
     {
         let number = self.row_count + 1;
         self.row_count = number;
-        let uneven = if row.len() == headings.len() {
-            None
-        } else {
-            Some(number)
-        };
-        self.uneven = self.uneven.or(uneven);
         let bad = note_cells(headings, self.numbers.as_mut_slice(), row);
         self.bad_cell = self.bad_cell.or(bad.map(|column| (number, column)));
     }
 }
 
-/// The survey of the records that are left. It reads at most one row more than a table may have.
+/// The survey of the records that are left, of which there are so many.
 pub(crate) fn survey_rows(
     alloc: Global,
     headings: &[Heading],
+    row_count: usize,
     records: &mut Records<'_>,
     row: &mut ByteRecord,
-) -> Result<Survey, TableFault>
-    requires { length headings.now ≤ COLUMN_LIMIT }
-    ensures ok { IfOk result (λ survey. IsSurvey headings.now records.old survey) }
-    ensures few { IfOk result (λ survey. length records.old ≤ ROW_LIMIT) }
-    ensures fault { IfErr result (λ fault. fault ≢ Memory → (fault ≡ Rows) × (ROW_LIMIT < length records.old)) }
+) -> Result<Survey, AllocError>
+    requires count { length records.old ≡ row_count }
+    requires few { row_count ≤ ROW_LIMIT }
+    requires columns { length headings.now ≤ COLUMN_LIMIT }
+    ensures { IfOk result (λ survey. IsSurvey headings.now records.old survey) }
 {
     let mut survey = Survey::new(alloc, headings.len())?;
-    for _ in 0..ROW_LIMIT {
+    for _ in 0..row_count {
         if !records.next(row)? {
             return Ok(survey);
         }
         survey.note(headings, row);
-    }
-    if records.next(row)? {
-        return Err(TableFault::Rows);
     }
     Ok(survey)
 }

@@ -1,7 +1,7 @@
 -- A line that is neither empty nor a comment says what its first part and the rest say.
 use Rattle.std.proofs.Common.{ℕ, ◌≡◌, ◌≢◌, ◌==◌, List, length, slice_index, false, arith}
 use Rattle.std.proofs.lemmas.Bool.Decides.{nat_tests}
-use Rattle.sql_parser.specs.Parts.{first_part, after_part}
+use Rattle.script_report.specs.Parts.{first_part, after_part}
 use Rattle.script_report.specs.Commands.{Reading, line_in, command_in}
 
 not_equal : (a b : ℕ) → a ≢ b → (a == b) ≡ false

@@ -5,8 +5,8 @@ use Rattle.std.specs.Str.{bytes_eq}
 use Rattle.row_values.specs.Numbers.{whole_number_of}
 use Rattle.row_values.specs.Plain.{is_plain}
 use Rattle.row_values.specs.declared.values.Value.TheVariants.{Int}
-use Rattle.sql_parser.specs.Parts.{skip_blanks, first_part, after_part}
-use Rattle.sql_parser.specs.Statements.{select_of}
+use Rattle.script_report.specs.Parts.{skip_blanks, first_part, after_part}
+use Rattle.script_report.specs.BuiltForms.{select_of}
 use Rattle.script_report.specs.declared.commands.Command.{Command}
 use Rattle.script_report.specs.declared.commands.Command.TheVariants as command
 

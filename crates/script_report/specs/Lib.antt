@@ -1,2 +1,4 @@
+pub mod BuiltForms
 pub mod Commands
+pub mod Parts
 pub mod Replies

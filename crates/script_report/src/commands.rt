@@ -5,8 +5,9 @@
 ghost use Rattle.std.specs.Prelude.{◌≡◌, ◌∷◌, [], IfOk};
 ghost use Rattle.script_report.specs.Commands as reading;
 
+use crate::built_form::{BuiltSelect, FormFault, read_form};
+use crate::parts::{after_part, first_part, skip_blanks};
 use row_values::{Args, Value, Words, is_plain_name, whole_number};
-use sql_parser::{ParseFault, Select, after_part, first_part, parse, skip_blanks};
 use std::alloc::{AllocError, Global};
 
 /// What a line asks for.
@@ -15,7 +16,7 @@ pub enum Command {
     /// Make a table of a CSV file.
     Load { table: Words, file: Words },
     /// Keep a statement under a name.
-    Prepare { name: Words, select: Select },
+    Prepare { name: Words, select: BuiltSelect },
     /// Execute a statement with these arguments.
     Run { name: Words, args: Args },
     /// A line that begins with a command word and hasn't a form that is built.
@@ -80,9 +81,9 @@ fn prepare_in(alloc: Global, rest: &str) -> Result<Command, AllocError>
     if !is_plain_name(name) {
         return Ok(Command::NotBuilt);
     }
-    match parse(alloc, after_part(rest)) {
-        Err(ParseFault::Memory) => Err(AllocError),
-        Err(ParseFault::Syntax) => Ok(Command::NotBuilt),
+    match read_form(alloc, after_part(rest)) {
+        Err(FormFault::Memory) => Err(AllocError),
+        Err(FormFault::Other) => Ok(Command::NotBuilt),
         Ok(select) => Ok(Command::Prepare {
             name: Words::of(alloc, name)?,
             select,

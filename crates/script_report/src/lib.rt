@@ -5,8 +5,11 @@
 //! To add a command, add its variant, its case of `command_in` in both places, and its reply.
 #![tactic(auto)]
 
+mod built_form;
 mod commands;
+mod parts;
 mod replies;
 
+pub use built_form::BuiltSelect;
 pub use commands::{Command, LineFault, read_line};
 pub use replies::{Execution, Lines, Reply, reply_text};

@@ -13,10 +13,9 @@ use row_values::{
     Column, FILE_TOO_LONG, Kind, MISSING_FILE, NOT_A_TABLE, NOT_BUILT, Refusal, SYNTAX,
     UNKNOWN_TABLE, Value, Words,
 };
-use script_report::{Command, Execution, Reply};
+use script_report::{BuiltSelect, Command, Execution, Reply};
 use session_model::{COST_SCALE, RESULT_LIMIT};
 use session_store::Store;
-use sql_parser::Select;
 use std::alloc::{AllocError, Global};
 use std::marker::Model;
 
@@ -77,7 +76,7 @@ fn is_number(kind: Kind) -> bool
 }
 
 /// Whether these are one column, of whole numbers, and both columns of the statement are that one.
-fn are_columns(select: &Select, columns: &[Column]) -> bool
+fn are_columns(select: &BuiltSelect, columns: &[Column]) -> bool
     ensures { result ≡ statement_columns select.now columns.now }
 {
     match columns {
@@ -186,7 +185,7 @@ impl Engine {
 
 impl Engine {
     /// `prepare NAME SELECT ..`.
-    fn prepare(&mut self, alloc: Global, name: &Words, select: &Select) -> Result<Reply, AllocError>
+    fn prepare(&mut self, alloc: Global, name: &Words, select: &BuiltSelect) -> Result<Reply, AllocError>
         ensures ok { IfOk result (λ reply. PrepareStep self.old name.now select.now reply self.new) }
         ensures err { OnErr result (self.new ≡ self.old) }
         ensures counts { self.new.executions ≤ self.old.executions + 1 }

@@ -4,8 +4,7 @@ use Rattle.outside_model.specs.declared.TheConstants.{FILE_LIMIT}
 use Rattle.row_values.specs.declared.values.Value.{Value}
 use Rattle.csv_tables.specs.Tables.{TableValue}
 use Rattle.csv_tables.specs.Spelled.{table_of}
-use Rattle.csv_tables.specs.declared.faults.TableFault.{TableFault}
-use Rattle.sql_parser.specs.declared.statement.Select.{Select}
+use Rattle.script_report.specs.declared.built_form.BuiltSelect.{BuiltSelect}
 use Rattle.script_report.specs.Commands.{Reading, Silent, Says, Bad}
 use Rattle.script_report.specs.declared.commands.Command.{Command}
 use Rattle.script_report.specs.declared.commands.Command.TheVariants.{Load, Prepare, Run, NotBuilt}
@@ -56,7 +55,7 @@ prepares : (old : State) (name table : List ℕ) → Can (Prepares old name tabl
 prepares old name table =
     (reply.Prepared name 1 1 1, record old { statements = old.statements ++ (record { name = name; table = table }) ∷ [] }, record { says = refl; keeps = refl })
 
-prepare_goes_on : (old : State) (name : List ℕ) (select : Select) → Can (PrepareStep old name select)
+prepare_goes_on : (old : State) (name : List ℕ) (select : BuiltSelect) → Can (PrepareStep old name select)
 prepare_goes_on old name select =
     by_test (is_some (find_statement old.statements name)) _ _ (refuses 21 [] old)
     (by_test (has_statement_room old.statements) _ _

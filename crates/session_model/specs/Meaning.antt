@@ -1,6 +1,6 @@
 -- What the statement `SELECT c FROM t WHERE c < ?` means over a table of one column of whole numbers, and what it costs.
 use Rattle.std.specs.Prelude.{ℕ, ℤ, ◌*◌, max, List, [], ◌∷◌, ◌++◌, filter, length, slice_get, codes, Bool, false, Option, Some, None}
-use Rattle.std.specs.Fmt.{decimal, signed_decimal}
+use Rattle.std.specs.Fmt.{signed_decimal}
 use Rattle.std.specs.Option.{option_map_or}
 use Rattle.std.specs.Ordering.{int_cmp, is_lt}
 use Rattle.row_values.specs.declared.values.Value.{Value}

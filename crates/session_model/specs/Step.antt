@@ -1,5 +1,5 @@
 -- What one line may answer, and what it leaves.
-use Rattle.std.specs.Prelude.{ℕ, ℤ, ◌≡◌, ◌+◌, ◌&&◌, nat_lt, nat_le, ◌==◌, List, [], ◌∷◌, ◌++◌, length, map, Bool, true, false, is_some, MatchBool, Option, Some, None, MatchOption, MatchResult, if◌then◌else◌}
+use Rattle.std.specs.Prelude.{ℕ, ◌≡◌, ◌+◌, ◌&&◌, nat_lt, nat_le, ◌==◌, List, [], ◌∷◌, ◌++◌, length, map, Bool, true, false, is_some, MatchBool, Option, None, MatchOption, MatchResult, if◌then◌else◌}
 use Rattle.std.specs.Option.{option_map}
 use Rattle.std.specs.Str.{bytes_eq}
 use Rattle.outside_model.specs.declared.TheConstants.{FILE_LIMIT}
@@ -11,7 +11,7 @@ use Rattle.row_values.specs.declared.refusals.TheConstants.{SYNTAX, UNKNOWN_TABL
 use Rattle.row_values.specs.declared.values.Value.{Value}
 use Rattle.csv_tables.specs.Tables.{TableValue}
 use Rattle.csv_tables.specs.Spelled.{table_of}
-use Rattle.sql_parser.specs.declared.statement.Select.{Select}
+use Rattle.script_report.specs.declared.built_form.BuiltSelect.{BuiltSelect}
 use Rattle.script_report.specs.Commands.{Reading, Silent, Says, Bad}
 use Rattle.script_report.specs.declared.commands.Command.{Command}
 use Rattle.script_report.specs.declared.commands.Command.TheVariants.{Load, Prepare, Run, NotBuilt}
@@ -67,13 +67,13 @@ is_number kind.Int = true
 is_number kind.Text = false
 
 -- the table has one column, of whole numbers, and both columns of the statement are that one
-abbrev pub are_columns : Select → List Column → Bool
+abbrev pub are_columns : BuiltSelect → List Column → Bool
 are_columns select [] = false
 are_columns select (column ∷ []) = is_number column.kind && bytes_eq column.name select.column && bytes_eq column.name select.tested
 are_columns select (column ∷ other ∷ columns) = false
 
 -- `prepare NAME SELECT ..`: NAME isn't taken, there is room, and the table and its columns are there
-abbrev pub PrepareStep : State → List ℕ → Select → Reply → State → Type 0
+abbrev pub PrepareStep : State → List ℕ → BuiltSelect → Reply → State → Type 0
 PrepareStep old name select answer new =
     MatchBool (is_some (find_statement old.statements name)) (Refuses NOT_BUILT [] old answer new)
     (MatchBool (has_statement_room old.statements)

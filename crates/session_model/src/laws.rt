@@ -10,5 +10,4 @@ ghost use Rattle.session_model.specs.Step.{CanStep};
 /// lines of a script goes on to its end.
 pub fn progress()
     ensures { (old : State) (reading : Reading) (file : Option (List ℕ)) → is_silent reading ≡ false → CanStep old reading file }
-{
-}
+{}

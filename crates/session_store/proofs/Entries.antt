@@ -1,5 +1,5 @@
 -- The entries of the two maps, as lists of tables and of statements.
-use Rattle.std.proofs.Common.{ℕ, ◌≡◌, ◌+◌, ◌∙◌, ◌&&◌, nat_le, nat_lt, List, [], ◌∷◌, ◌++◌, length, Option, Some, None, ap, suc, ◌≤◌, ◌<◌, ◌-◌, sym, refl, arith, cond, Bool, true, false, add_assoc}
+use Rattle.std.proofs.Common.{ℕ, ◌≡◌, ◌+◌, ◌∙◌, nat_le, List, [], ◌∷◌, ◌++◌, length, Option, Some, None, ap, suc, ◌≤◌, ◌<◌, ◌-◌, sym, refl, arith, cond, Bool, true, false, add_assoc}
 use Rattle.std.specs.Str.{bytes_eq}
 use Rattle.std.specs.Option.{option_map}
 use Rattle.std.specs.Map.{lookup}

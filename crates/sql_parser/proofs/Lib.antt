@@ -1,2 +1,14 @@
-mod Blanks
-mod Cuts
+pub mod Complete
+pub mod First
+pub mod Good
+pub mod Lexing
+pub mod Lists
+pub mod Spellings
+pub mod Texts
+pub mod Quotes
+pub mod Runs
+pub mod Scanning
+pub mod Shapes
+pub mod Signs
+pub mod Sound
+pub mod Whole

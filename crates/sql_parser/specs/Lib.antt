@@ -1,2 +1,5 @@
-pub mod Parts
-pub mod Statements
+pub mod Canonical
+pub mod Grammar
+pub mod Reading
+pub mod Statement
+pub mod Tokens

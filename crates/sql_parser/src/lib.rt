@@ -1,11 +1,19 @@
-//! Statements from their texts.
+//! The statement language: a text is read as a `Select`, and a `Select` has one canonical spelling.
 //!
-//! What is read so far is `SELECT c FROM t WHERE d < ?`, letter for letter in this spelling, with three plain
-//! names. The one way in is `parse`.
+//! It knows names, numbers and texts, and no table: what the names stand for is found out above.
 #![tactic(auto)]
 
-mod parts;
+mod faults;
+pub mod laws;
+mod parsing;
+mod printing;
+mod reading;
 mod statement;
+#[cfg(test)]
+mod tests;
+mod tokens;
 
-pub use parts::{after_part, first_part, skip_blanks};
-pub use statement::{ParseFault, Select, parse};
+pub use faults::ParseFault;
+pub use parsing::parse;
+pub use printing::print;
+pub use statement::{RawCond, RawItem, RawKey, RawOperand, RawPlace, RawRef, RawTest, Select};

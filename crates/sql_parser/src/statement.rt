@@ -1,103 +1,172 @@
-//! A statement and its spelling.
-ghost use Rattle.std.specs.Prelude.{◌≡◌, IfOk, string_bytes};
-ghost use Rattle.sql_parser.specs.Statements as statements;
+//! The parts of a statement in text order, with names that aren't resolved yet.
+//!
+//! Every `Select` has an item and a place, and no name in it is empty, as no statement spells another; so each has
+//! a spelling. `parse` is the one way in.
+//! To add a part, add it here, a production to `specs/Grammar.antt`, and its canonical spelling to `specs/Canonical.antt`.
+ghost use Rattle.std.specs.Prelude.{◌≡◌};
+ghost use Rattle.sql_parser.specs.Statement.{IsSound};
 
-use crate::parts::{after_part, first_part};
-use row_values::{Words, is_plain_name};
-use std::alloc::{AllocError, Global};
+use row_values::{Value, Words};
+use std::marker::Model;
 
-/// A statement: the column that it shows, its table, and the column that is compared with the parameter.
+/// A reference to a column: its name, and the alias of its place where the text says one.
+#[derive(Debug, Drop, PartialEq, Eq)]
+pub struct RawRef {
+    pub alias: Option<Words>,
+    pub column: Words,
+}
+
+/// An entry of FROM: the table, and the alias, which is the table's name where the text says none.
+#[derive(Debug, Drop, PartialEq, Eq)]
+pub struct RawPlace {
+    pub table: Words,
+    pub alias: Words,
+}
+
+/// An item of the result.
+#[derive(Debug, Drop, PartialEq, Eq)]
+pub enum RawItem {
+    Column(RawRef),
+    CountAll,
+    Sum(RawRef),
+    Min(RawRef),
+    Max(RawRef),
+}
+
+/// What a column is compared with: a literal, or a parameter. Parameters are numbered in text order.
+#[derive(Debug, Drop, PartialEq, Eq)]
+pub enum RawOperand {
+    Literal(Value),
+    Param,
+}
+
+/// The test that a predicate makes of its column; both ends of BETWEEN are taken.
+#[derive(Debug, Drop, PartialEq, Eq)]
+pub enum RawTest {
+    Lt(RawOperand),
+    Le(RawOperand),
+    Gt(RawOperand),
+    Ge(RawOperand),
+    Eq(RawOperand),
+    Between(RawOperand, RawOperand),
+}
+
+/// A condition: a predicate on one column, or the equality of two columns.
+#[derive(Debug, Drop, PartialEq, Eq)]
+pub enum RawCond {
+    Test(RawRef, RawTest),
+    Same(RawRef, RawRef),
+}
+
+/// A key of ORDER BY.
+#[derive(Debug, Drop, PartialEq, Eq)]
+pub struct RawKey {
+    pub at: RawRef,
+    pub descending: bool,
+}
+
+/// A statement's parts in text order; contracts see the five lists.
+///
+/// Nothing is kept of a join against a comma, of ON against WHERE, of an alias that equals the table's name, of ASC,
+/// or of the `;` at the end.
 #[derive(Debug, Drop)]
 pub struct Select {
-    pub column: Words,
-    pub table: Words,
-    pub tested: Words,
+    items: Vec<RawItem>,
+    places: Vec<RawPlace>,
+    conds: Vec<RawCond>,
+    groups: Vec<RawRef>,
+    order: Vec<RawKey>,
 }
 
-/// Why a text is no statement.
-#[derive(Clone, Copy, Debug, PartialEq, Eq)]
-pub enum ParseFault {
-    /// The text isn't spelled as a statement is.
-    Syntax,
-    Memory,
+impl Model for Select {
+    ghost use Rattle.sql_parser.specs.Statement.{Parts, IsSound};
+
+    ghost Value = { Parts };
+
+    ghost view = { λ s. record {
+      items = s.items.items;
+      places = s.places.items;
+      conds = s.conds.items;
+      groups = s.groups.items;
+      order = s.order.items;
+    } };
+
+    ghost invariant = { λ s. IsSound (record {
+      items = s.items.items;
+      places = s.places.items;
+      conds = s.conds.items;
+      groups = s.groups.items;
+      order = s.order.items;
+    }) };
 }
 
-/// The spelling of the statement of these names.
-fn spelling(alloc: Global, column: &str, table: &str, tested: &str) -> Result<String, AllocError>
-    ensures { IfOk result (λ text. string_bytes text ≡ statements.spelling column.now table.now tested.now) }
-{
-    let text = format!(in alloc; "SELECT {column} FROM {table} WHERE {tested} < ?")?;
-    Ok(text)
-}
-
-/// The statement of these names, where the text is its spelling.
-fn spelled(
-    alloc: Global,
-    text: &str,
-    column: &str,
-    table: &str,
-    tested: &str,
-) -> Result<Option<Select>, AllocError>
-    ensures { IfOk result (λ select. select ≡ statements.spelled text.now column.now table.now tested.now) }
-{
-    let spelling = spelling(alloc, column, table, tested)?;
-    if !(spelling.as_str() == text) {
-        return Ok(None);
+impl Select {
+    /// These parts as a statement. It takes no memory.
+    pub(crate) fn of(
+        items: Vec<RawItem>,
+        places: Vec<RawPlace>,
+        conds: Vec<RawCond>,
+        groups: Vec<RawRef>,
+        order: Vec<RawKey>,
+    ) -> Select
+        requires { IsSound (record {
+          items = items.items;
+          places = places.items;
+          conds = conds.items;
+          groups = groups.items;
+          order = order.items;
+        }) }
+        ensures { result ≡ record {
+          items = items.items;
+          places = places.items;
+          conds = conds.items;
+          groups = groups.items;
+          order = order.items;
+        } }
+    {
+        Select {
+            items,
+            places,
+            conds,
+            groups,
+            order,
+        }
     }
-    Ok(Some(Select {
-        column: Words::of(alloc, column)?,
-        table: Words::of(alloc, table)?,
-        tested: Words::of(alloc, tested)?,
-    }))
-}
 
-/// The statement that the text spells, or `Syntax` exactly where it spells none.
-pub fn parse(alloc: Global, text: &str) -> Result<Select, ParseFault>
-    ensures ok { IfOk result (λ select. statements.select_of text.now ≡ Some select) }
-    ensures syntax { result ≡ Err ParseFault.Syntax → statements.select_of text.now ≡ None }
-{
-    match spelled_in(alloc, text) {
-        Err(_) => Err(ParseFault::Memory),
-        Ok(None) => Err(ParseFault::Syntax),
-        Ok(Some(select)) => Ok(select),
+    /// The items of the result; there is one.
+    pub fn items(&self) -> &[RawItem]
+        ensures value { result.now ≡ self.now.items }
+        ensures sound { IsSound self.now }
+    {
+        self.items.as_slice()
     }
-}
 
-/// The statement that the text spells, if it spells one.
-fn spelled_in(alloc: Global, text: &str) -> Result<Option<Select>, AllocError>
-    ensures { IfOk result (λ select. select ≡ statements.select_of text.now) }
-{
-    let column = after_part(text);
-    let table = after_part(after_part(column));
-    let tested = after_part(after_part(table));
-    let select = named(
-        alloc,
-        text,
-        first_part(column),
-        first_part(table),
-        first_part(tested),
-    )?;
-    Ok(select)
-}
+    /// The entries of FROM; there is one.
+    pub fn places(&self) -> &[RawPlace]
+        ensures value { result.now ≡ self.now.places }
+        ensures sound { IsSound self.now }
+    {
+        self.places.as_slice()
+    }
 
-/// The statement of these names, where they are plain and the text is its spelling.
-fn named(
-    alloc: Global,
-    text: &str,
-    column: &str,
-    table: &str,
-    tested: &str,
-) -> Result<Option<Select>, AllocError>
-    ensures { IfOk result (λ select. select ≡ statements.named text.now column.now table.now tested.now) }
-{
-    if !is_plain_name(column) {
-        return Ok(None);
+    /// The conditions of WHERE and of the joins.
+    pub fn conds(&self) -> &[RawCond]
+        ensures value { result.now ≡ self.now.conds }
+    {
+        self.conds.as_slice()
     }
-    if !is_plain_name(table) {
-        return Ok(None);
+
+    /// The columns of GROUP BY.
+    pub fn groups(&self) -> &[RawRef]
+        ensures value { result.now ≡ self.now.groups }
+    {
+        self.groups.as_slice()
     }
-    if !is_plain_name(tested) {
-        return Ok(None);
+
+    /// The keys of ORDER BY.
+    pub fn order(&self) -> &[RawKey]
+        ensures value { result.now ≡ self.now.order }
+    {
+        self.order.as_slice()
     }
-    spelled(alloc, text, column, table, tested)
 }

@@ -1,4 +1,4 @@
-use Rattle.std.proofs.Common.{◌≡◌, ◌∙◌, ◌++◌, ◌∷◌, [], None, ap, sym, List}
+use Rattle.std.proofs.Common.{◌≡◌, ◌∙◌, ◌++◌, ◌∷◌, [], None, ap, List}
 use Rattle.session_model.specs.State.{StatementState, find_statement}
 use Rattle.session_store.specs.Kept.{Kept, statements_of}
 use Rattle.session_store.proofs.Entries.{statement_last, new_statement}

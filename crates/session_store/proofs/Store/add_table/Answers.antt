@@ -1,4 +1,4 @@
-use Rattle.std.proofs.Common.{◌≡◌, ◌∙◌, ◌++◌, ◌+◌, ◌∷◌, [], None, ap, sym, List, arith}
+use Rattle.std.proofs.Common.{◌≡◌, ◌∙◌, ◌++◌, ◌+◌, ◌∷◌, [], None, ap, List, arith}
 use Rattle.session_model.specs.State.{TableState, find_table, cells_of, cells_held, bytes_held}
 use Rattle.session_store.specs.Kept.{Kept, tables_of}
 use Rattle.session_store.specs.declared.Held.{Held}

@@ -1,4 +1,4 @@
-use Rattle.std.proofs.Common.{◌≡◌, ap, arith}
+use Rattle.std.proofs.Common.{ap}
 use Rattle.session_store.specs.Kept.{Kept}
 use Rattle.session_store.proofs.Entries.{room, no_room}
 use Rattle.session_store.proofs.Store.has_room.Goals as goal

@@ -1,4 +1,4 @@
-use Rattle.std.proofs.Common.{◌≡◌, ◌∙◌, ap, sym, length, nat_lt, ℕ}
+use Rattle.std.proofs.Common.{◌∙◌, ap, sym, length, nat_lt, ℕ}
 use Rattle.session_store.specs.Kept.{Kept}
 use Rattle.session_store.proofs.Entries.{length-statements_of}
 use Rattle.session_store.proofs.Store.has_statement_room.Goals as goal

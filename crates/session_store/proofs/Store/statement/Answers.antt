@@ -1,4 +1,4 @@
-use Rattle.std.proofs.Common.{◌≡◌, ◌∙◌, ap}
+use Rattle.std.proofs.Common.{◌∙◌, ap}
 use Rattle.session_model.specs.State.{find_statement}
 use Rattle.session_store.specs.Kept.{Kept}
 use Rattle.session_store.proofs.Entries.{found_statement}

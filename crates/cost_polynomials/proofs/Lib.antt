@@ -1,0 +1,4 @@
+pub mod Terms
+pub mod Values
+pub mod Growth
+pub mod Evaluation

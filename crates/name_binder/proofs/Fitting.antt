@@ -1,0 +1,91 @@
+-- Operands that a column takes, and predicates and edges that no misfit is among.
+use Rattle.std.proofs.Common.{ℕ, ◌≡◌, ◌+◌, ◌==◌, List, [], ◌∷◌, Bool, true, false, not, ◌||◌, Option, Some, None, IsSome, refl}
+use Rattle.std.specs.List.{All, find, flat_map}
+use Rattle.std.proofs.lemmas.Bool.{eqb-false}
+use Rattle.std.proofs.lemmas.List.Elements.{All-cons, All-nil}
+use Rattle.row_values.specs.Values.{kind_of}
+use Rattle.row_values.specs.Statements.{IsOperand, IsTest, IsPred, IsEdge}
+use Rattle.row_values.specs.declared.values.Kind.{Kind}
+use Rattle.row_values.specs.declared.values.Kind.TheVariants.{Int, Text}
+use Rattle.row_values.specs.declared.statement.Place.{Place}
+use Rattle.sql_parser.specs.declared.statement.RawRef.{RawRef}
+use Rattle.sql_parser.specs.declared.statement.RawOperand.{RawOperand}
+use Rattle.sql_parser.specs.declared.statement.RawOperand.TheVariants.{Literal, Param}
+use Rattle.sql_parser.specs.declared.statement.RawTest.{RawTest}
+use Rattle.sql_parser.specs.declared.statement.RawTest.TheVariants.{Lt, Le, Gt, Ge, Eq, Between}
+use Rattle.sql_parser.specs.declared.statement.RawCond.{RawCond}
+use Rattle.sql_parser.specs.declared.statement.RawCond.TheVariants.{Test, Same}
+use Rattle.name_binder.specs.References.{place_number, meant, kind_meant, is_unknown, cond_refs}
+use Rattle.name_binder.specs.Parameters.{operand_count, test_count}
+use Rattle.name_binder.specs.Refusals.{are_one_kind, takes_operand, takes_test, is_misfit}
+use Rattle.name_binder.specs.Binding.{operand_from, test_from, preds_from, edges_of}
+use Rattle.name_binder.proofs.Known.{known_column, both_left, both_right}
+use Rattle.name_binder.proofs.Found.{split_none}
+
+pub one_kind : (a b : Option Kind) → are_one_kind a b ≡ true → a ≡ b
+one_kind None b h = cc
+one_kind (Some Int) None h = cc
+one_kind (Some Int) (Some Int) h = refl
+one_kind (Some Int) (Some Text) h = cc
+one_kind (Some Text) None h = cc
+one_kind (Some Text) (Some Int) h = cc
+one_kind (Some Text) (Some Text) h = refl
+
+pub not_false : (b : Bool) → not b ≡ false → b ≡ true
+not_false true h = refl
+not_false false h = cc
+
+operand_fits : (left : Option Kind) (n : ℕ) (a : RawOperand) → IsSome left → takes_operand left a ≡ true → IsOperand left (operand_from n a)
+operand_fits left n (Literal value) there h = one_kind left (Some (kind_of value)) h
+operand_fits left n Param there h = there
+
+test_fits : (left : Option Kind) (n : ℕ) (t : RawTest) → IsSome left → takes_test left t ≡ true → IsTest left (test_from n t)
+test_fits left n (Lt a) there h = operand_fits left n a there h
+test_fits left n (Le a) there h = operand_fits left n a there h
+test_fits left n (Gt a) there h = operand_fits left n a there h
+test_fits left n (Ge a) there h = operand_fits left n a there h
+test_fits left n (Eq a) there h = operand_fits left n a there h
+test_fits left n (Between a b) there h = (
+  operand_fits left n a there (both_left (takes_operand left a) (takes_operand left b) h),
+  operand_fits left (n + operand_count a) b there (both_right (takes_operand left a) (takes_operand left b) h),
+)
+
+either_false : (a b : Bool) → (a || b) ≡ false → (a ≡ false) × (b ≡ false)
+either_false true b h = cc
+either_false false b h = (refl, h)
+
+edge_fits : (places : List Place) (a b : RawRef) → is_unknown places a ≡ false → is_misfit places (Same a b) ≡ false
+    → IsEdge places (record { left = meant places a; right = meant places b })
+edge_fits places a b known h =
+    let both = either_false (place_number a places == place_number b places) (not (are_one_kind (kind_meant places a) (kind_meant places b))) h in
+    record {
+      there = known_column a places known;
+      one_kind = one_kind (kind_meant places a) (kind_meant places b) (not_false _ both.1);
+      two_places = eqb-false (place_number a places) (place_number b places) both.0;
+    }
+
+pub preds_fit : (places : List Place) (n : ℕ) (conds : List RawCond) → find (is_unknown places) (flat_map cond_refs conds) ≡ None → find (is_misfit places) conds ≡ None
+    → All (IsPred places) (preds_from places n conds)
+preds_fit places n [] known fit = All-nil _
+preds_fit places n (Test r t ∷ conds) known fit =
+    let k = split_none (is_unknown places r) r (find (is_unknown places) (flat_map cond_refs conds)) known in
+    let f = split_none (is_misfit places (Test r t)) (Test r t) (find (is_misfit places) conds) fit in
+    All-cons (IsPred places) _ _ (test_fits (kind_meant places r) n t (known_column r places k.0) (not_false _ f.0)) (preds_fit places (n + test_count t) conds k.1 f.1)
+preds_fit places n (Same a b ∷ conds) known fit =
+    let k = split_none (is_unknown places a) a _ known in
+    let k2 = split_none (is_unknown places b) b (find (is_unknown places) (flat_map cond_refs conds)) k.1 in
+    let f = split_none (is_misfit places (Same a b)) (Same a b) (find (is_misfit places) conds) fit in
+    preds_fit places n conds k2.1 f.1
+
+pub edges_fit : (places : List Place) (conds : List RawCond) → find (is_unknown places) (flat_map cond_refs conds) ≡ None → find (is_misfit places) conds ≡ None
+    → All (IsEdge places) (edges_of places conds)
+edges_fit places [] known fit = All-nil _
+edges_fit places (Test r t ∷ conds) known fit =
+    let k = split_none (is_unknown places r) r (find (is_unknown places) (flat_map cond_refs conds)) known in
+    let f = split_none (is_misfit places (Test r t)) (Test r t) (find (is_misfit places) conds) fit in
+    edges_fit places conds k.1 f.1
+edges_fit places (Same a b ∷ conds) known fit =
+    let k = split_none (is_unknown places a) a _ known in
+    let k2 = split_none (is_unknown places b) b (find (is_unknown places) (flat_map cond_refs conds)) k.1 in
+    let f = split_none (is_misfit places (Same a b)) (Same a b) (find (is_misfit places) conds) fit in
+    All-cons (IsEdge places) _ _ (edge_fits places a b k.0 f.0) (edges_fit places conds k2.1 f.1)

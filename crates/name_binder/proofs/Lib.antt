@@ -1,0 +1,7 @@
+mod Apart
+mod Exits
+mod Fitting
+mod Found
+mod Known
+mod Numbered
+mod Sound

@@ -1,0 +1,167 @@
+//! The parts of the bound statement: each reference as the column that it means, each parameter with its number.
+//!
+//! All calls are for statements within the limits: few places, and few parameterised predicates.
+ghost use Rattle.std.specs.Prelude.{◌≡◌, ◌≤◌, ◌<◌, length, IfOk, map};
+ghost use Rattle.name_binder.specs.References as names;
+ghost use Rattle.name_binder.specs.Parameters.{parameterised_count};
+ghost use Rattle.name_binder.specs.Refusals as refusals;
+ghost use Rattle.name_binder.specs.Binding as binding;
+
+use crate::limits::{operand_count, test_count};
+use crate::references::meant;
+use row_values::{
+    ColRef, Edge, Item, Operand, OrderKey, PLACE_LIMIT, Place, Pred, SELECTIVITY_LIMIT, Test,
+};
+use sql_parser::{RawCond, RawItem, RawKey, RawOperand, RawRef, RawTest};
+use std::alloc::{AllocError, Global};
+
+/// The column that the reference means.
+pub fn col_ref(places: &[Place], r: &RawRef) -> ColRef
+    requires { length places.now ≤ PLACE_LIMIT }
+    ensures { result ≡ names.meant places.now r.now }
+{
+    let at = meant(places, r);
+    ColRef {
+        place: at.place as u8,
+        column: at.column,
+    }
+}
+
+/// The item with its column.
+pub fn bound_item(places: &[Place], item: &RawItem) -> Item
+    requires { length places.now ≤ PLACE_LIMIT }
+    ensures { result ≡ refusals.bound_item places.now item.now }
+{
+    match item {
+        RawItem::Column(r) => Item::Column(col_ref(places, r)),
+        RawItem::CountAll => Item::CountAll,
+        RawItem::Sum(r) => Item::Sum(col_ref(places, r)),
+        RawItem::Min(r) => Item::Min(col_ref(places, r)),
+        RawItem::Max(r) => Item::Max(col_ref(places, r)),
+    }
+}
+
+/// The items with their columns.
+pub fn bound_items(
+    alloc: Global,
+    places: &[Place],
+    items: &[RawItem],
+) -> Result<Vec<Item>, AllocError>
+    requires { length places.now ≤ PLACE_LIMIT }
+    ensures { IfOk result (λ bound. bound.items ≡ map (refusals.bound_item places.now) items.now) }
+{
+    let mut bound = Vec::new(alloc);
+    for item in items {
+        bound.push(bound_item(places, item))?;
+    }
+    Ok(bound)
+}
+
+/// The GROUP BY columns.
+pub fn bound_groups(
+    alloc: Global,
+    places: &[Place],
+    groups: &[RawRef],
+) -> Result<Vec<ColRef>, AllocError>
+    requires { length places.now ≤ PLACE_LIMIT }
+    ensures { IfOk result (λ bound. bound.items ≡ refusals.bound_groups places.now groups.now) }
+{
+    let mut bound = Vec::new(alloc);
+    for r in groups {
+        bound.push(col_ref(places, r))?;
+    }
+    Ok(bound)
+}
+
+/// The ORDER BY keys with their columns.
+pub fn bound_keys(
+    alloc: Global,
+    places: &[Place],
+    order: &[RawKey],
+) -> Result<Vec<OrderKey>, AllocError>
+    requires { length places.now ≤ PLACE_LIMIT }
+    ensures { IfOk result (λ bound. bound.items ≡ map (binding.bound_key places.now) order.now) }
+{
+    let mut bound = Vec::new(alloc);
+    for key in order {
+        bound.push(OrderKey {
+            at: col_ref(places, &key.at),
+            descending: key.descending,
+        })?;
+    }
+    Ok(bound)
+}
+
+/// The edges in text order.
+pub fn bound_edges(
+    alloc: Global,
+    places: &[Place],
+    conds: &[RawCond],
+) -> Result<Vec<Edge>, AllocError>
+    requires { length places.now ≤ PLACE_LIMIT }
+    ensures { IfOk result (λ edges. edges.items ≡ binding.edges_of places.now conds.now) }
+{
+    let mut edges = Vec::new(alloc);
+    for cond in conds {
+        if let RawCond::Same(a, b) = cond {
+            edges.push(Edge {
+                left: col_ref(places, a),
+                right: col_ref(places, b),
+            })?;
+        }
+    }
+    Ok(edges)
+}
+
+/// The operand, a parameter with this number.
+fn operand_from(alloc: Global, next: u8, operand: &RawOperand) -> Result<Operand, AllocError>
+    ensures { IfOk result (λ bound. bound ≡ binding.operand_from next operand.now) }
+{
+    match operand {
+        RawOperand::Literal(value) => Ok(Operand::Literal(value.copy(alloc)?)),
+        RawOperand::Param => Ok(Operand::Param(next)),
+    }
+}
+
+/// The test, its parameters with the numbers from this one on.
+fn test_from(alloc: Global, next: u8, test: &RawTest) -> Result<Test, AllocError>
+    requires { next < 255 }
+    ensures { IfOk result (λ bound. bound ≡ binding.test_from next test.now) }
+{
+    let bound = match test {
+        RawTest::Lt(a) => Test::Lt(operand_from(alloc, next, a)?),
+        RawTest::Le(a) => Test::Le(operand_from(alloc, next, a)?),
+        RawTest::Gt(a) => Test::Gt(operand_from(alloc, next, a)?),
+        RawTest::Ge(a) => Test::Ge(operand_from(alloc, next, a)?),
+        RawTest::Eq(a) => Test::Eq(operand_from(alloc, next, a)?),
+        RawTest::Between(a, b) => Test::Between(
+            operand_from(alloc, next, a)?,
+            operand_from(alloc, next + operand_count(a), b)?,
+        ),
+    };
+    Ok(bound)
+}
+
+/// The predicates in text order, their parameters numbered from 0.
+pub fn bound_preds(
+    alloc: Global,
+    places: &[Place],
+    conds: &[RawCond],
+) -> Result<Vec<Pred>, AllocError>
+    requires places { length places.now ≤ PLACE_LIMIT }
+    requires parameters { parameterised_count conds.now ≤ SELECTIVITY_LIMIT }
+    ensures { IfOk result (λ preds. preds.items ≡ binding.preds_from places.now 0 conds.now) }
+{
+    let mut preds = Vec::new(alloc);
+    let mut next = 0;
+    for cond in conds {
+        if let RawCond::Test(r, test) = cond {
+            preds.push(Pred {
+                at: col_ref(places, r),
+                test: test_from(alloc, next, test)?,
+            })?;
+            next += test_count(test);
+        }
+    }
+    Ok(preds)
+}

@@ -1,0 +1,40 @@
+//! The sequential scan: each row of a place is tested against the predicates on it.
+//!
+//! The operands are looked up once, before the first row. The way in is `scan`.
+ghost use Rattle.std.specs.Prelude.{◌≡◌, ◌∷◌, [], IfOk, length, map, filter, slice_index_or};
+ghost use Rattle.statement_meaning.specs.Combinations.{kept_combinations, row_numbers};
+ghost use Rattle.row_tests.specs.Ready.{all_hold};
+
+use csv_tables::Table;
+use row_tests::{Ready, passes, ready_preds};
+use row_values::{Query, Value};
+use std::alloc::{AllocError, Global};
+
+/// The numbers of the rows that meet all of these, rising.
+#[tactic(auto, using(crate::proofs::Scanned::scan_more))]
+fn passing_rows(
+    alloc: Global,
+    table: &Table,
+    args: &[Value],
+    ready: &[Ready],
+) -> Result<Vec<u32>, AllocError>
+    ensures { IfOk result (λ rows. rows.items ≡ filter (λ row. all_hold args.now ready.now (slice_index_or table.now.rows row [])) (row_numbers (length table.now.rows))) }
+{
+    let mut rows = Vec::new(alloc);
+    for row in 0..table.len() as u32 {
+        if passes(table, row as usize, args, ready) {
+            rows.push(row)?;
+        }
+    }
+    Ok(rows)
+}
+
+/// The numbers of the rows that a statement of one place keeps, rising: its kept combinations.
+pub fn scan(alloc: Global, q: &Query, table: &Table, args: &[Value]) -> Result<Vec<u32>, AllocError>
+    requires { length q.now.places ≡ 1 }
+    ensures { IfOk result (λ rows. map (λ row. row ∷ []) rows.items ≡ kept_combinations q.now (table.now.rows ∷ []) args.now) }
+{
+    let ready = ready_preds(alloc, q.preds(), args, 0)?;
+    let rows = passing_rows(alloc, table, args, ready.as_slice())?;
+    Ok(rows)
+}

@@ -1,0 +1,10 @@
+pub mod AccessLaws
+pub mod Bits
+pub mod NameLaws
+pub mod PieceLaws
+pub mod PlanLaws
+pub mod ReadLaws
+pub mod Readable
+pub mod SoundParts
+pub mod ValidPlans
+pub mod Words

@@ -1,0 +1,14 @@
+-- Sets of places: the sum of 2 ^ t over the places t, which are counted from 0 in the order of FROM.
+use Rattle.std.specs.Prelude.{ℕ, ◌-◌, ◌/◌, ◌%◌, ◌^◌, ◌==◌, Bool}
+
+-- whether the set has this place
+abbrev pub has : ℕ → ℕ → Bool
+has set place = set / 2 ^ place % 2 == 1
+
+-- the set of this place alone
+abbrev pub one : ℕ → ℕ
+one place = 2 ^ place
+
+-- the set of the places below this number
+abbrev pub all_below : ℕ → ℕ
+all_below count = 2 ^ count - 1

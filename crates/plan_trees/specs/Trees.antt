@@ -1,0 +1,56 @@
+-- Plans as trees without pointers, and the places of a tree.
+use Rattle.std.specs.Prelude.{ℕ, ◌+◌}
+use Rattle.plan_trees.specs.PlaceSets.{one}
+use Rattle.plan_trees.specs.declared.plans.Access.{Access}
+use Rattle.plan_trees.specs.declared.plans.Access.TheVariants.{Seq, Range, Full}
+use Rattle.plan_trees.specs.declared.plans.StepKind.{StepKind}
+use Rattle.plan_trees.specs.declared.plans.StepKind.TheVariants.{Loop, Probe, Hash}
+use Rattle.plan_trees.specs.declared.plans.Plan as declared
+use Rattle.plan_trees.specs.declared.plans.Top as top
+
+-- a plan: an access, a plan with one more place, or a sorted plan
+pub data Tree : Type 0 where
+  Base : (access : Access) → Tree
+  Join : (outer : Tree) (step : StepKind) → Tree
+  Sort : (outer : Tree) → Tree
+
+-- a plan and how its rows become the result
+pub data TopTree : Type 0 where
+  Rows : (plan : Tree) → TopTree
+  SortedGroups : (plan : Tree) → TopTree
+  HashGroups : (plan : Tree) → TopTree
+
+-- the tree that a plan stands for; what the pointers are makes no difference
+abbrev pub tree : declared.Plan → Tree
+tree (declared.Base access) = Base access
+tree (declared.Loop' pointer outer access) = Join (tree outer) (Loop access)
+tree (declared.Probe' pointer outer place edge) = Join (tree outer) (Probe place edge)
+tree (declared.Hash' pointer outer access edge) = Join (tree outer) (Hash access edge)
+tree (declared.Sort' pointer outer) = Sort (tree outer)
+
+abbrev pub top_tree : top.Top → TopTree
+top_tree (top.TheVariants.Rows plan) = Rows (tree plan.value)
+top_tree (top.TheVariants.SortedGroups plan) = SortedGroups (tree plan.value)
+top_tree (top.TheVariants.HashGroups plan) = HashGroups (tree plan.value)
+
+abbrev pub plan_below : TopTree → Tree
+plan_below (Rows plan) = plan
+plan_below (SortedGroups plan) = plan
+plan_below (HashGroups plan) = plan
+
+-- the place that an access reads, and the one that a step takes in
+abbrev pub place_of : Access → ℕ
+place_of (Seq place) = place
+place_of (Range place column pred) = place
+place_of (Full place column) = place
+
+abbrev pub place_entering : StepKind → ℕ
+place_entering (Loop access) = place_of access
+place_entering (Probe place edge) = place
+place_entering (Hash access edge) = place_of access
+
+-- the set of a plan's places
+abbrev pub places_of : Tree → ℕ
+places_of (Base access) = one (place_of access)
+places_of (Join outer step) = places_of outer + one (place_entering step)
+places_of (Sort outer) = places_of outer

@@ -1,0 +1,25 @@
+//! Plans: access paths, join trees and tops, when they are valid, and how they are spelled.
+//!
+//! A plan is a tree that shares its parts; contracts speak of the tree that it stands for, without its pointers
+//! (`tree` of specs/Trees). It knows no cost and no way to run a plan.
+#![tactic(auto)]
+
+pub mod laws;
+mod place_sets;
+mod plans;
+mod printing;
+mod reading;
+mod selectivities;
+mod statistics;
+mod validity;
+
+pub use place_sets::{all_places, has_place, one_place, with_place};
+pub use plans::{Access, Plan, StepKind, Top, same};
+pub use printing::print_plan;
+pub use reading::{NESTING_LIMIT, PlanFault, read_plan};
+pub use selectivities::Vector;
+pub use statistics::{Indexed, Stats, Weights};
+pub use validity::{is_valid_access, is_valid_step, valid};
+
+#[cfg(test)]
+mod tests;

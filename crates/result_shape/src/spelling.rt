@@ -1,0 +1,97 @@
+//! How a value stands in a row line: a number in decimal, a text between double quotes.
+//!
+//! In a text `"` and `\` have a `\` before them, and control bytes are written `\x` and two hexadecimal digits; what
+//! needs no escape is copied in one piece. Each function adds at the end of a text that grows.
+ghost use Rattle.std.specs.Prelude.{◌≡◌, ◌<◌, ◌++◌, false, OnOk, IsTrue, string_bytes, option_map};
+ghost use Rattle.std.specs.List.{flat_map};
+ghost use Rattle.std.specs.Fmt.{signed_decimal, digit_glyph};
+ghost use Rattle.statement_meaning.specs.Meaning.{shown_cell};
+ghost use Rattle.statement_meaning.specs.Spelling.{escaped, quoted, item_text};
+ghost use Rattle.result_shape.specs.Items.{needs_escape};
+
+use row_values::Value;
+use std::alloc::AllocError;
+
+/// Whether a byte of a text stands for itself only behind a `\`.
+fn is_escaped(byte: u8) -> bool
+    ensures { result ≡ needs_escape byte }
+{
+    byte == b'"' || byte == b'\\' || byte < 0x20 || byte == 0x7f
+}
+
+/// A small hexadecimal digit.
+fn hex_digit(digit: u8) -> char
+    requires { digit < 16 }
+    ensures { result ≡ digit_glyph false digit }
+{
+    if digit < 10 {
+        char::from(b'0' + digit)
+    } else {
+        char::from(b'a' + (digit - 10))
+    }
+}
+
+/// Adds a byte as it is escaped.
+fn push_escaped(text: &mut String, byte: u8) -> Result<(), AllocError>
+    requires { IsTrue (needs_escape byte) }
+    ensures { OnOk result (string_bytes text.new ≡ string_bytes text.old ++ escaped byte) }
+{
+    if byte == b'"' || byte == b'\\' {
+        text.push('\\')?;
+        text.push(char::from(byte))?;
+    } else {
+        text.push('\\')?;
+        text.push('x')?;
+        text.push(hex_digit(byte / 16))?;
+        text.push(hex_digit(byte % 16))?;
+    }
+    Ok(())
+}
+
+/// Adds a text without its quotes.
+fn push_escapes(text: &mut String, words: &str) -> Result<(), AllocError>
+    ensures { OnOk result (string_bytes text.new ≡ string_bytes text.old ++ flat_map escaped words.now) }
+{
+    let mut start = 0;
+    for (i, byte) in words.as_bytes().iter().enumerate() {
+        if is_escaped(*byte) {
+            text.push_str(&words[start..i])?;
+            push_escaped(text, *byte)?;
+            start = i + 1;
+        }
+    }
+    text.push_str(&words[start..])?;
+    Ok(())
+}
+
+/// Adds a text between double quotes.
+fn push_quoted(text: &mut String, words: &str) -> Result<(), AllocError>
+    ensures { OnOk result (string_bytes text.new ≡ string_bytes text.old ++ quoted words.now) }
+{
+    text.push('"')?;
+    push_escapes(text, words)?;
+    text.push('"')?;
+    Ok(())
+}
+
+/// Adds a whole number in decimal.
+fn push_number(text: &mut String, number: i64) -> Result<(), AllocError>
+    ensures { OnOk result (string_bytes text.new ≡ string_bytes text.old ++ signed_decimal number) }
+{
+    write!(text, "{number}")?;
+    Ok(())
+}
+
+/// Adds a cell as a row line shows it; one that isn't there shows as the empty text.
+pub fn push_cell(text: &mut String, cell: Option<&Value>) -> Result<(), AllocError>
+    ensures { OnOk result (string_bytes text.new ≡ string_bytes text.old ++ item_text (shown_cell (option_map (λ value. value.now) cell.entry))) }
+{
+    match cell {
+        Some(Value::Int(number)) => push_number(text, *number),
+        Some(Value::Text(words)) => push_quoted(text, words.as_str()),
+        None => push_quoted(text, ""),
+    }
+}
+
+#[cfg(test)]
+mod tests;

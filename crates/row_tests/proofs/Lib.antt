@@ -1,0 +1,2 @@
+pub mod NoCell
+pub mod Tests

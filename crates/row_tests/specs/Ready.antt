@@ -1,0 +1,38 @@
+-- What a ready predicate asks of a row.
+use Rattle.std.specs.Prelude.{ℤ, List, [], ◌∷◌, slice_get, Bool, true, false, ◌&&◌, Option, Some, None}
+use Rattle.std.specs.Ordering.{int_cmp, is_lt, is_le, is_gt, is_ge, is_eq}
+use Rattle.row_values.specs.declared.values.Value.{Value}
+use Rattle.row_values.specs.declared.values.Value.TheVariants.{Int, Text}
+use Rattle.statement_meaning.specs.Conditions.{meets}
+use Rattle.row_tests.specs.declared.tests_of_values.NumberTest.{NumberTest}
+use Rattle.row_tests.specs.declared.tests_of_values.NumberTest.TheVariants.{Lt, Le, Gt, Ge, Eq, Between}
+use Rattle.row_tests.specs.declared.ready.ReadyTest.{ReadyTest}
+use Rattle.row_tests.specs.declared.ready.ReadyTest.TheVariants.{Number, Any}
+use Rattle.row_tests.specs.declared.ready.Ready.{Ready}
+
+-- whether a whole number meets a test against whole numbers
+abbrev pub number_holds : NumberTest → ℤ → Bool
+number_holds (Lt a) number = is_lt (int_cmp number a)
+number_holds (Le a) number = is_le (int_cmp number a)
+number_holds (Gt a) number = is_gt (int_cmp number a)
+number_holds (Ge a) number = is_ge (int_cmp number a)
+number_holds (Eq a) number = is_eq (int_cmp number a)
+number_holds (Between a b) number = is_ge (int_cmp number a) && is_le (int_cmp number b)
+
+-- whether a cell is a whole number that meets it
+abbrev pub is_number_in : NumberTest → Option Value → Bool
+is_number_in test None = false
+is_number_in test (Some (Int number)) = number_holds test number
+is_number_in test (Some (Text text)) = false
+
+abbrev pub ready_meets : List Value → ReadyTest → Option Value → Bool
+ready_meets args (Number test) cell = is_number_in test cell
+ready_meets args (Any test) cell = meets args test.now cell
+
+-- whether a row meets a ready predicate, and whether it meets all of them
+abbrev pub ready_holds : List Value → Ready → List Value → Bool
+ready_holds args ready row = ready_meets args ready.test (slice_get row ready.column)
+
+abbrev pub all_hold : List Value → List Ready → List Value → Bool
+all_hold args [] row = true
+all_hold args (ready ∷ more) row = ready_holds args ready row && all_hold args more row

@@ -1,0 +1,100 @@
+//! Tests of a single value.
+//!
+//! `meets_test` tests any value; `number_test` makes a test against whole numbers alone, which compares them at once.
+ghost use Rattle.std.specs.Prelude.{◌≡◌, Some, IfSome, option_map};
+ghost use Rattle.row_values.specs.declared.values.Value.{Value as AnyValue};
+ghost use Rattle.std.specs.Prelude.{Option as Maybe};
+ghost use Rattle.statement_meaning.specs.Conditions.{operand_value, order_between, meets};
+ghost use Rattle.row_tests.specs.Ready.{number_holds, is_number_in};
+
+use row_values::{Operand, Test, Value, compare};
+use std::cmp::Ordering;
+
+/// A test against whole numbers.
+#[derive(Clone, Copy, Debug)]
+pub enum NumberTest {
+    Lt(i64),
+    Le(i64),
+    Gt(i64),
+    Ge(i64),
+    Eq(i64),
+    Between(i64, i64),
+}
+
+/// What an operand stands for; none where its argument isn't there.
+fn value_of<'a>(args: &'a [Value], operand: &'a Operand) -> Option<&'a Value>
+    ensures { option_map (λ value. value.now) result ≡ operand_value args.now operand.now }
+{
+    match operand {
+        Operand::Literal(value) => Some(value),
+        Operand::Param(number) => args.get(usize::from(*number)),
+    }
+}
+
+/// How a cell stands to an operand; none where the operand isn't there or the kinds differ.
+fn order_to(args: &[Value], cell: &Value, operand: &Operand) -> Option<Ordering>
+    ensures { result ≡ order_between (Some cell.now) (operand_value args.now operand.now) }
+{
+    match value_of(args, operand) {
+        None => None,
+        Some(value) => compare(cell, value),
+    }
+}
+
+/// Whether a cell meets a test.
+pub fn meets_test(args: &[Value], test: &Test, cell: &Value) -> bool
+    ensures { result ≡ meets args.now test.now (Some cell.now) }
+{
+    match test {
+        Test::Lt(a) => order_to(args, cell, a).is_some_and(|order| order.is_lt()),
+        Test::Le(a) => order_to(args, cell, a).is_some_and(|order| order.is_le()),
+        Test::Gt(a) => order_to(args, cell, a).is_some_and(|order| order.is_gt()),
+        Test::Ge(a) => order_to(args, cell, a).is_some_and(|order| order.is_ge()),
+        Test::Eq(a) => order_to(args, cell, a).is_some_and(|order| order.is_eq()),
+        Test::Between(a, b) => {
+            order_to(args, cell, a).is_some_and(|order| order.is_ge())
+                && order_to(args, cell, b).is_some_and(|order| order.is_le())
+        }
+    }
+}
+
+/// The whole number that an operand stands for, if it does for one.
+fn number_of(args: &[Value], operand: &Operand) -> Option<i64>
+    ensures { IfSome result (λ number. operand_value args.now operand.now ≡ Some (AnyValue.Int number)) }
+{
+    match value_of(args, operand) {
+        Some(Value::Int(number)) => Some(*number),
+        _ => None,
+    }
+}
+
+/// The test against whole numbers that this test is, if its operands are whole numbers.
+pub fn number_test(args: &[Value], test: &Test) -> Option<NumberTest>
+    ensures { IfSome result (λ numbers. (cell : Maybe AnyValue) → is_number_in numbers cell ≡ meets args.now test.now cell) }
+{
+    match test {
+        Test::Lt(a) => Some(NumberTest::Lt(number_of(args, a)?)),
+        Test::Le(a) => Some(NumberTest::Le(number_of(args, a)?)),
+        Test::Gt(a) => Some(NumberTest::Gt(number_of(args, a)?)),
+        Test::Ge(a) => Some(NumberTest::Ge(number_of(args, a)?)),
+        Test::Eq(a) => Some(NumberTest::Eq(number_of(args, a)?)),
+        Test::Between(a, b) => Some(NumberTest::Between(number_of(args, a)?, number_of(args, b)?)),
+    }
+}
+
+impl NumberTest {
+    /// Whether a whole number meets it.
+    #[inline]
+    pub fn holds(self, number: i64) -> bool
+        ensures { result ≡ number_holds self number }
+    {
+        match self {
+            NumberTest::Lt(a) => number < a,
+            NumberTest::Le(a) => number <= a,
+            NumberTest::Gt(a) => number > a,
+            NumberTest::Ge(a) => number >= a,
+            NumberTest::Eq(a) => number == a,
+            NumberTest::Between(a, b) => number >= a && number <= b,
+        }
+    }
+}

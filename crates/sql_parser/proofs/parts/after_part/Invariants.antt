@@ -1,7 +1,0 @@
-use Rattle.std.proofs.Common.{◌≡◌, drop}
-use Rattle.sql_parser.specs.Parts as parts
-use Rattle.sql_parser.proofs.parts.after_part.Given as goal
-
--- no blank so far
-abbrev pub invariant-loop-i : goal.invariant-loop-i
-invariant-loop-i l = parts.after_part (drop l.i l.text) ≡ parts.after_part l.text

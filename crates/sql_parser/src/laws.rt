@@ -1,0 +1,15 @@
+//! Laws on the grammar and the canonical spelling, each the contract of a function that does nothing.
+ghost use Rattle.std.specs.Prelude.{◌≡◌, ℕ, List};
+ghost use Rattle.sql_parser.specs.Grammar.{IsStatementText};
+ghost use Rattle.sql_parser.specs.Canonical.{canonical_text};
+ghost use Rattle.sql_parser.specs.Statement.{Parts, IsSound};
+
+/// The grammar is unambiguous: no text has two readings.
+pub fn one_reading()
+    ensures { (text : List ℕ) (s t : Parts) → IsStatementText text s → IsStatementText text t → s ≡ t }
+{}
+
+/// The canonical spelling of a statement is a text of the grammar, and this statement is what it spells.
+pub fn canonical_text_is_read()
+    ensures { (s : Parts) → IsSound s → IsStatementText (canonical_text s) s }
+{}

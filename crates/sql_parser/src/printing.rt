@@ -1,0 +1,298 @@
+//! From a statement to its one canonical spelling.
+//!
+//! Each part is written at the end of the text so far. `print` is the one way in.
+ghost use Rattle.std.specs.Prelude.{◌≡◌, ◌++◌, ◌<◌, codes, OnOk, IfOk, string_bytes};
+ghost use Rattle.sql_parser.specs.Statement.{each};
+ghost use Rattle.sql_parser.specs.Grammar.{IsStatementText};
+ghost use Rattle.sql_parser.specs.Tokens as token;
+ghost use Rattle.sql_parser.specs.Canonical as spelled;
+
+use crate::statement::{RawCond, RawItem, RawKey, RawOperand, RawPlace, RawRef, RawTest, Select};
+use crate::tokens::{RESERVED, is_letter, is_name_byte, mark_of};
+use row_values::{Value, Words};
+use std::alloc::{AllocError, Global};
+
+/// Whether the bytes are a letter and then letters and digits.
+fn is_word(name: &str) -> bool
+    ensures { result ≡ token.is_word name.now }
+{
+    match name.as_bytes() {
+        [first, rest @ ..] => is_letter(*first) && goes_on(rest),
+        [] => false,
+    }
+}
+
+/// Whether each byte goes on a word.
+fn goes_on(bytes: &[u8]) -> bool
+    ensures { result ≡ each token.is_name_byte bytes.now }
+{
+    for byte in bytes {
+        if !is_name_byte(*byte) {
+            return false;
+        }
+    }
+    true
+}
+
+/// Whether a name needs no quotes.
+fn is_plain(name: &str) -> bool
+    ensures { result ≡ spelled.is_plain name.now }
+{
+    is_word(name) && mark_of(&RESERVED, name).is_none()
+}
+
+/// Writes a text between quotes, each quote in it doubled.
+fn push_quoted(out: &mut String, quote: char, text: &str) -> Result<(), AllocError>
+    requires { quote < 128 }
+    ensures { OnOk result (string_bytes out.new ≡ string_bytes out.old ++ token.quoted quote text.now) }
+{
+    out.push(quote)?;
+    let mut rest = text;
+    'quotes: while let Some((part, after)) = rest.split_once(quote) {
+        out.push_str(part)?;
+        out.push(quote)?;
+        out.push(quote)?;
+        rest = after;
+    }
+    out.push_str(rest)?;
+    out.push(quote)?;
+    Ok(())
+}
+
+/// Writes a name.
+fn push_name(out: &mut String, name: &Words) -> Result<(), AllocError>
+    ensures { OnOk result (string_bytes out.new ≡ string_bytes out.old ++ spelled.name_text name.now) }
+{
+    let text = name.as_str();
+    if is_plain(text) {
+        out.push_str(text)
+    } else {
+        push_quoted(out, '"', text)
+    }
+}
+
+/// Writes a reference.
+fn push_ref(out: &mut String, at: &RawRef) -> Result<(), AllocError>
+    ensures { OnOk result (string_bytes out.new ≡ string_bytes out.old ++ spelled.ref_text at.now) }
+{
+    if let Some(alias) = &at.alias {
+        push_name(out, alias)?;
+        out.push_str(".")?;
+    }
+    push_name(out, &at.column)?;
+    Ok(())
+}
+
+/// Writes an aggregate of a column.
+fn push_aggregate(out: &mut String, name: &str, at: &RawRef) -> Result<(), AllocError>
+    ensures { OnOk result (string_bytes out.new ≡ string_bytes out.old ++ (name.now ++ spelled.ref_text at.now ++ codes ")")) }
+{
+    out.push_str(name)?;
+    push_ref(out, at)?;
+    out.push_str(")")?;
+    Ok(())
+}
+
+/// Writes an item.
+fn push_item(out: &mut String, item: &RawItem) -> Result<(), AllocError>
+    ensures { OnOk result (string_bytes out.new ≡ string_bytes out.old ++ spelled.item_text item.now) }
+{
+    match item {
+        RawItem::Column(at) => push_ref(out, at),
+        RawItem::CountAll => out.push_str("COUNT(*)"),
+        RawItem::Sum(at) => push_aggregate(out, "SUM(", at),
+        RawItem::Min(at) => push_aggregate(out, "MIN(", at),
+        RawItem::Max(at) => push_aggregate(out, "MAX(", at),
+    }
+}
+
+/// Writes a place.
+fn push_place(out: &mut String, place: &RawPlace) -> Result<(), AllocError>
+    ensures { OnOk result (string_bytes out.new ≡ string_bytes out.old ++ spelled.place_text place.now) }
+{
+    push_name(out, &place.table)?;
+    if place.alias == place.table {
+        return Ok(());
+    }
+    out.push_str(" AS ")?;
+    push_name(out, &place.alias)?;
+    Ok(())
+}
+
+/// Writes an operand.
+fn push_operand(alloc: Global, out: &mut String, operand: &RawOperand) -> Result<(), AllocError>
+    ensures { OnOk result (string_bytes out.new ≡ string_bytes out.old ++ spelled.operand_text operand.now) }
+{
+    match operand {
+        RawOperand::Literal(Value::Int(number)) => out.push_str(number.to_string(alloc)?.as_str()),
+        RawOperand::Literal(Value::Text(text)) => push_quoted(out, '\'', text.as_str()),
+        RawOperand::Param => out.push_str("?"),
+    }
+}
+
+/// Writes an operator and its operand.
+fn push_compared(
+    alloc: Global,
+    out: &mut String,
+    sign: &str,
+    operand: &RawOperand,
+) -> Result<(), AllocError>
+    ensures { OnOk result (string_bytes out.new ≡ string_bytes out.old ++ (sign.now ++ spelled.operand_text operand.now)) }
+{
+    out.push_str(sign)?;
+    push_operand(alloc, out, operand)?;
+    Ok(())
+}
+
+/// Writes a test.
+fn push_test(alloc: Global, out: &mut String, test: &RawTest) -> Result<(), AllocError>
+    ensures { OnOk result (string_bytes out.new ≡ string_bytes out.old ++ spelled.test_text test.now) }
+{
+    match test {
+        RawTest::Lt(operand) => push_compared(alloc, out, " < ", operand),
+        RawTest::Le(operand) => push_compared(alloc, out, " <= ", operand),
+        RawTest::Gt(operand) => push_compared(alloc, out, " > ", operand),
+        RawTest::Ge(operand) => push_compared(alloc, out, " >= ", operand),
+        RawTest::Eq(operand) => push_compared(alloc, out, " = ", operand),
+        RawTest::Between(low, high) => {
+            push_compared(alloc, out, " BETWEEN ", low)?;
+            push_compared(alloc, out, " AND ", high)?;
+            Ok(())
+        }
+    }
+}
+
+/// Writes a condition.
+fn push_cond(alloc: Global, out: &mut String, cond: &RawCond) -> Result<(), AllocError>
+    ensures { OnOk result (string_bytes out.new ≡ string_bytes out.old ++ spelled.cond_text cond.now) }
+{
+    match cond {
+        RawCond::Test(at, test) => {
+            push_ref(out, at)?;
+            push_test(alloc, out, test)?;
+            Ok(())
+        }
+        RawCond::Same(left, right) => {
+            push_ref(out, left)?;
+            out.push_str(" = ")?;
+            push_ref(out, right)?;
+            Ok(())
+        }
+    }
+}
+
+/// Writes a key of ORDER BY.
+fn push_key(out: &mut String, key: &RawKey) -> Result<(), AllocError>
+    ensures { OnOk result (string_bytes out.new ≡ string_bytes out.old ++ spelled.key_text key.now) }
+{
+    push_ref(out, &key.at)?;
+    if key.descending {
+        out.push_str(" DESC")?;
+    }
+    Ok(())
+}
+
+/// Writes these with a separator between two, behind a word; nothing where there is none.
+fn push_items(
+    out: &mut String,
+    word: &str,
+    separator: &str,
+    items: &[RawItem],
+) -> Result<(), AllocError>
+    ensures { OnOk result (string_bytes out.new ≡ string_bytes out.old ++ spelled.listed_text word.now separator.now spelled.item_text items.now) }
+{
+    let mut before = word;
+    for part in items {
+        out.push_str(before)?;
+        push_item(out, part)?;
+        before = separator;
+    }
+    Ok(())
+}
+
+/// Writes these with a separator between two, behind a word; nothing where there is none.
+fn push_places(
+    out: &mut String,
+    word: &str,
+    separator: &str,
+    places: &[RawPlace],
+) -> Result<(), AllocError>
+    ensures { OnOk result (string_bytes out.new ≡ string_bytes out.old ++ spelled.listed_text word.now separator.now spelled.place_text places.now) }
+{
+    let mut before = word;
+    for part in places {
+        out.push_str(before)?;
+        push_place(out, part)?;
+        before = separator;
+    }
+    Ok(())
+}
+
+/// Writes these with a separator between two, behind a word; nothing where there is none.
+fn push_conds(
+    alloc: Global,
+    out: &mut String,
+    word: &str,
+    separator: &str,
+    conds: &[RawCond],
+) -> Result<(), AllocError>
+    ensures { OnOk result (string_bytes out.new ≡ string_bytes out.old ++ spelled.listed_text word.now separator.now spelled.cond_text conds.now) }
+{
+    let mut before = word;
+    for part in conds {
+        out.push_str(before)?;
+        push_cond(alloc, out, part)?;
+        before = separator;
+    }
+    Ok(())
+}
+
+/// Writes these with a separator between two, behind a word; nothing where there is none.
+fn push_refs(
+    out: &mut String,
+    word: &str,
+    separator: &str,
+    refs: &[RawRef],
+) -> Result<(), AllocError>
+    ensures { OnOk result (string_bytes out.new ≡ string_bytes out.old ++ spelled.listed_text word.now separator.now spelled.ref_text refs.now) }
+{
+    let mut before = word;
+    for part in refs {
+        out.push_str(before)?;
+        push_ref(out, part)?;
+        before = separator;
+    }
+    Ok(())
+}
+
+/// Writes these with a separator between two, behind a word; nothing where there is none.
+fn push_keys(
+    out: &mut String,
+    word: &str,
+    separator: &str,
+    keys: &[RawKey],
+) -> Result<(), AllocError>
+    ensures { OnOk result (string_bytes out.new ≡ string_bytes out.old ++ spelled.listed_text word.now separator.now spelled.key_text keys.now) }
+{
+    let mut before = word;
+    for part in keys {
+        out.push_str(before)?;
+        push_key(out, part)?;
+        before = separator;
+    }
+    Ok(())
+}
+
+/// The canonical spelling of a statement: `parse` of it gives this very statement again.
+pub fn print(alloc: Global, s: &Select) -> Result<Words, AllocError>
+    ensures value { IfOk result (λ words. words ≡ spelled.canonical_text s.now) }
+    ensures read_again { IfOk result (λ words. IsStatementText words s.now) }
+{
+    let mut out = String::new(alloc);
+    push_items(&mut out, "SELECT ", ", ", s.items())?;
+    push_places(&mut out, " FROM ", ", ", s.places())?;
+    push_conds(alloc, &mut out, " WHERE ", " AND ", s.conds())?;
+    push_refs(&mut out, " GROUP BY ", ", ", s.groups())?;
+    push_keys(&mut out, " ORDER BY ", ", ", s.order())?;
+    Ok(Words::from_string(out))
+}

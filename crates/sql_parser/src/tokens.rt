@@ -1,0 +1,353 @@
+//! Tokens: what a statement's text falls into before the grammar is asked.
+//!
+//! A token is the longest one that stands there, so white space is needed only where two tokens would run together.
+//! `tokens_of` is the one way in. To add a reserved word or a sign, add its `Mark`, its text here and in
+//! `specs/Tokens.antt`, and its place in `RESERVED` or `SIGNS`.
+ghost use Rattle.std.specs.Prelude.{◌≡◌, ◌<◌, List, ◌∷◌, false, find, nat_eq, drop, IfOk, IsErrOf, IsTrue};
+ghost use Rattle.std.specs.List.{prefix_len, starts_with};
+ghost use Rattle.std.specs.Char.{is_ascii_digit};
+ghost use Rattle.sql_parser.specs.Tokens as spelled;
+ghost use Rattle.sql_parser.specs.declared.tokens.Token.{Token};
+
+use crate::faults::ParseFault;
+use row_values::{Value, Words};
+use std::alloc::{AllocError, Global};
+use std::collections::VecDeque;
+
+/// A reserved word or a sign.
+#[derive(Clone, Copy, Debug, PartialEq, Eq)]
+pub enum Mark {
+    Select,
+    From,
+    Where,
+    And,
+    Group,
+    By,
+    Order,
+    Asc,
+    Desc,
+    Between,
+    Count,
+    Sum,
+    Min,
+    Max,
+    As,
+    Join,
+    Inner,
+    On,
+    In,
+    Comma,
+    Dot,
+    Open,
+    Close,
+    Star,
+    Question,
+    Semicolon,
+    Less,
+    AtMost,
+    Greater,
+    AtLeast,
+    Equals,
+}
+
+/// The reserved words, none of which is a plain name.
+pub const RESERVED: [Mark; 19] = [
+    Mark::Select,
+    Mark::From,
+    Mark::Where,
+    Mark::And,
+    Mark::Group,
+    Mark::By,
+    Mark::Order,
+    Mark::Asc,
+    Mark::Desc,
+    Mark::Between,
+    Mark::Count,
+    Mark::Sum,
+    Mark::Min,
+    Mark::Max,
+    Mark::As,
+    Mark::Join,
+    Mark::Inner,
+    Mark::On,
+    Mark::In,
+];
+
+/// The signs, a longer one before those that begin it.
+pub const SIGNS: [Mark; 12] = [
+    Mark::Comma,
+    Mark::Dot,
+    Mark::Open,
+    Mark::Close,
+    Mark::Star,
+    Mark::Question,
+    Mark::Semicolon,
+    Mark::AtMost,
+    Mark::Less,
+    Mark::AtLeast,
+    Mark::Greater,
+    Mark::Equals,
+];
+
+/// A token of a statement's text.
+#[derive(Debug, Drop)]
+pub enum Token {
+    Name(Words),
+    Literal(Value),
+    Mark(Mark),
+}
+
+impl Mark {
+    /// The one canonical spelling.
+    pub fn text(self) -> &'static str
+        ensures { result.now ≡ spelled.mark_text self }
+    {
+        match self {
+            Mark::Select => "SELECT",
+            Mark::From => "FROM",
+            Mark::Where => "WHERE",
+            Mark::And => "AND",
+            Mark::Group => "GROUP",
+            Mark::By => "BY",
+            Mark::Order => "ORDER",
+            Mark::Asc => "ASC",
+            Mark::Desc => "DESC",
+            Mark::Between => "BETWEEN",
+            Mark::Count => "COUNT",
+            Mark::Sum => "SUM",
+            Mark::Min => "MIN",
+            Mark::Max => "MAX",
+            Mark::As => "AS",
+            Mark::Join => "JOIN",
+            Mark::Inner => "INNER",
+            Mark::On => "ON",
+            Mark::In => "IN",
+            Mark::Comma => ",",
+            Mark::Dot => ".",
+            Mark::Open => "(",
+            Mark::Close => ")",
+            Mark::Star => "*",
+            Mark::Question => "?",
+            Mark::Semicolon => ";",
+            Mark::Less => "<",
+            Mark::AtMost => "<=",
+            Mark::Greater => ">",
+            Mark::AtLeast => ">=",
+            Mark::Equals => "=",
+        }
+    }
+}
+
+/// Whether a byte is white space.
+fn is_white(byte: u8) -> bool
+    ensures { result ≡ spelled.is_white byte }
+{
+    byte == b' ' || byte == b'\t' || byte == b'\r' || byte == b'\n'
+}
+
+/// Whether a byte begins a word.
+pub fn is_letter(byte: u8) -> bool
+    ensures { result ≡ spelled.is_letter byte }
+{
+    byte.is_ascii_alphabetic() || byte == b'_'
+}
+
+/// Whether a byte goes on a word.
+pub fn is_name_byte(byte: u8) -> bool
+    ensures { result ≡ spelled.is_name_byte byte }
+{
+    is_letter(byte) || byte.is_ascii_digit()
+}
+
+/// How many bytes of white space stand at the front.
+fn white_len(text: &str) -> usize
+    ensures { result ≡ prefix_len spelled.is_white text.now }
+{
+    text.as_bytes()
+        .iter()
+        .take_while(|byte| is_white(**byte))
+        .count()
+}
+
+/// How many bytes the word at the front has.
+fn word_len(text: &str) -> usize
+    ensures { result ≡ prefix_len spelled.is_name_byte text.now }
+{
+    text.as_bytes()
+        .iter()
+        .take_while(|byte| is_name_byte(**byte))
+        .count()
+}
+
+/// How many digits stand at the front.
+fn digits_len(bytes: &[u8]) -> usize
+    ensures { result ≡ prefix_len is_ascii_digit bytes.now }
+{
+    bytes
+        .iter()
+        .take_while(|byte| byte.is_ascii_digit())
+        .count()
+}
+
+/// The first of these marks that the bytes are, in any case of letters.
+pub fn mark_of(marks: &[Mark], word: &str) -> Option<Mark>
+    ensures { result ≡ find (λ m. spelled.is_spelled word.now m) marks.now }
+{
+    marks
+        .iter()
+        .copied()
+        .find(|mark| word.eq_ignore_ascii_case(mark.text()))
+}
+
+/// The first of these marks that the bytes begin with.
+fn mark_at(marks: &[Mark], bytes: &[u8]) -> Option<Mark>
+    ensures { result ≡ find (λ m. starts_with nat_eq bytes.now (spelled.mark_text m)) marks.now }
+{
+    marks
+        .iter()
+        .copied()
+        .find(|mark| bytes.starts_with(mark.text().as_bytes()))
+}
+
+/// What stands before the closing quote, each doubled quote once, and how many bytes that takes with the closing
+/// one; none exactly where the quotes don't close.
+fn unquoted(alloc: Global, inside: &str, quote: char) -> Result<Option<(Words, usize)>, AllocError>
+    requires { quote < 128 }
+    ensures { IfOk result (λ found. spelled.Unquotes quote inside.now found) }
+{
+    let mut content = String::new(alloc);
+    let mut rest = inside;
+    while let Some((part, after)) = rest.split_once(quote) {
+        content.push_str(part)?;
+        match after.strip_prefix(quote) {
+            None => return Ok(Some((Words::from_string(content), inside.len() - after.len()))),
+            Some(more) => rest = more,
+        }
+        content.push(quote)?;
+    }
+    Ok(None)
+}
+
+/// The name between double quotes at the front of a text; `inside` is the text after the first of them.
+fn quoted_name(alloc: Global, text: &str, inside: &str) -> Result<(Token, usize), ParseFault>
+    requires { text.now ≡ 34 ∷ inside.now }
+    ensures { spelled.Finds text.now result }
+{
+    let Some((name, len)) = unquoted(alloc, inside, '"')? else {
+        return Err(ParseFault::Syntax);
+    };
+    if name.as_str().is_empty() {
+        return Err(ParseFault::Syntax);
+    }
+    Ok((Token::Name(name), len + 1))
+}
+
+/// The text between single quotes at the front of a text; `inside` is the text after the first of them.
+fn quoted_text(alloc: Global, text: &str, inside: &str) -> Result<(Token, usize), ParseFault>
+    requires { text.now ≡ 39 ∷ inside.now }
+    ensures { spelled.Finds text.now result }
+{
+    let found = unquoted(alloc, inside, '\'')?;
+    match found {
+        Some((words, len)) => Ok((Token::Literal(Value::Text(words)), len + 1)),
+        None => Err(ParseFault::Syntax),
+    }
+}
+
+/// The whole number at the front of a text.
+fn number(text: &str) -> Result<(Token, usize), ParseFault>
+    requires { IsTrue (spelled.begins_with spelled.is_digit_or_minus text.now) }
+    ensures { spelled.Finds text.now result }
+{
+    let len = 1 + digits_len(&text.as_bytes()[1..]);
+    match text[..len].parse::<i64>() {
+        Ok(number) => Ok((Token::Literal(Value::Int(number)), len)),
+        Err(_) => Err(ParseFault::Syntax),
+    }
+}
+
+/// The plain name or reserved word at the front of a text.
+fn word(alloc: Global, text: &str) -> Result<(Token, usize), ParseFault>
+    requires { IsTrue (spelled.begins_with spelled.is_letter text.now) }
+    ensures { spelled.Finds text.now result }
+{
+    let len = word_len(text);
+    let word = &text[..len];
+    match mark_of(&RESERVED, word) {
+        Some(mark) => Ok((Token::Mark(mark), len)),
+        None => Ok((Token::Name(Words::of(alloc, word)?), len)),
+    }
+}
+
+/// The sign at the front of a text.
+fn sign(text: &str) -> Result<(Token, usize), ParseFault>
+    requires { spelled.begins_with spelled.is_other text.now ≡ false }
+    ensures { spelled.Finds text.now result }
+{
+    match mark_at(&SIGNS, text.as_bytes()) {
+        Some(mark) => Ok((Token::Mark(mark), mark.text().len())),
+        None => Err(ParseFault::Syntax),
+    }
+}
+
+/// Whether a digit or a minus stands at the front.
+fn begins_number(text: &str) -> bool
+    ensures { result ≡ spelled.begins_with spelled.is_digit_or_minus text.now }
+{
+    match text.as_bytes() {
+        [byte, ..] => byte.is_ascii_digit() || *byte == b'-',
+        [] => false,
+    }
+}
+
+/// Whether a letter stands at the front.
+fn begins_word(text: &str) -> bool
+    ensures { result ≡ spelled.begins_with spelled.is_letter text.now }
+{
+    match text.as_bytes() {
+        [byte, ..] => is_letter(*byte),
+        [] => false,
+    }
+}
+
+/// The token at the front of a text.
+fn first_token(alloc: Global, text: &str) -> Result<(Token, usize), ParseFault>
+    ensures { spelled.Finds text.now result }
+{
+    if let Some(inside) = text.strip_prefix('"') {
+        return quoted_name(alloc, text, inside);
+    }
+    if let Some(inside) = text.strip_prefix('\'') {
+        return quoted_text(alloc, text, inside);
+    }
+    if begins_number(text) {
+        return number(text);
+    }
+    if begins_word(text) {
+        return word(alloc, text);
+    }
+    sign(text)
+}
+
+/// A text without the white space at its front.
+fn after_white(text: &str) -> &str
+    ensures { result.now ≡ drop (prefix_len spelled.is_white text.now) text.now }
+{
+    &text[white_len(text)..]
+}
+
+/// The tokens of a text; `Syntax` exactly where it doesn't fall into tokens.
+pub fn tokens_of(alloc: Global, text: &str) -> Result<VecDeque<Token>, ParseFault>
+    ensures found { IfOk result (λ tokens. spelled.AreTokens text.now tokens.items) }
+    ensures only { IfOk result (λ tokens. (others : List Token) → spelled.AreTokens text.now others → others ≡ tokens.items) }
+    ensures syntax { IsErrOf result ParseFault.Syntax → (others : List Token) → ¬ spelled.AreTokens text.now others }
+{
+    let mut tokens = VecDeque::new(alloc);
+    let mut rest = after_white(text);
+    while !rest.is_empty() {
+        let (token, len) = first_token(alloc, rest)?;
+        tokens.push_back(token)?;
+        rest = after_white(&rest[len..]);
+    }
+    Ok(tokens)
+}
