@@ -2,7 +2,7 @@
 # The first run against a plain program: 1,048,576 rows of one whole number, a load and ten runs.
 #
 # It makes the file, builds the plain program with `rustc -O`, compares the two reports byte for byte, and then times
-# both in turn: processor time (user and system) in seconds, and the ratio of the sums. `first_run.sh 9` has nine rounds.
+# both in turn: processor time (user and system) in seconds, and the ratio of the medians. `first_run.sh 9` has nine rounds.
 set -eu
 cd "$(dirname "$0")"
 rounds=${1:-5}
@@ -41,7 +41,12 @@ for round in $(seq "$rounds"); do
     proved=$(seconds "$scr" run first.scr)
     # shellcheck disable=SC2086
     plain=$(seconds ./plain t.csv $arguments)
-    echo "$proved $plain"
-done | awk '
-    { print "proved " $1 "  plain " $2; proved += $1; plain += $2 }
-    END { printf "mean: proved %.3f  plain %.3f  ratio %.2f\n", proved / NR, plain / NR, proved / plain }'
+    echo "proved $proved  plain $plain"
+done | tee rounds.txt
+
+# The median of a column: other work on the machine makes single rounds slow.
+median() {
+    awk -v column="$1" '{ print $column }' rounds.txt | sort -n | awk '{ all[NR] = $1 } END { print all[int((NR + 1) / 2)] }'
+}
+awk -v proved="$(median 2)" -v plain="$(median 4)" \
+    'BEGIN { printf "median: proved %.3f  plain %.3f  ratio %.2f\n", proved, plain, proved / plain }'
