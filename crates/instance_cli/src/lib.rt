@@ -11,3 +11,6 @@ mod words;
 
 pub use job::scr;
 pub use outcome::Status;
+
+#[cfg(test)]
+mod tests;
