@@ -84,3 +84,6 @@ cut_is_short s (inr e) k = let x : Memory ≡ TooLong = sym e ∙ k in cc
 -- a count that rose after this moment rose after an earlier one
 pub rose_later : (a b c : ℕ) → a ≤ b → Rose b c → Rose a c
 rose_later a b c le rose = omega arith
+
+pub script_there : (files : Option Files) (name into : List ℕ) → Told files (λ fs. fs name ≡ Some into) → Told files (λ fs. (bytes : List ℕ) × (fs name ≡ Some bytes))
+script_there files name into h = told_map files (λ fs e. (into, e)) h

@@ -33,6 +33,8 @@ pub record Headline (name : List ℕ) (files : Option Files) (old_taken new_take
   pub usage : result ≡ status.Usage → ⊥
   -- the script isn't there
   pub missing : result ≡ status.Missing → Told files (λ told. told name ≡ None)
+  -- memory is asked for only once the script is known to be there
+  pub memory : result ≡ status.Memory → Told files (λ told. (bytes : List ℕ) × (told name ≡ Some bytes))
   pub missing_cause : result ≡ status.Missing → Rose old_misses new_misses
   pub read_cause : result ≡ status.ReadFault → Rose old_faults new_faults
   pub write_cause : result ≡ status.WriteFault → Rose old_sink new_sink

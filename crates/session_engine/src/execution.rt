@@ -49,10 +49,14 @@ fn row_line(alloc: Global, value: &Value) -> Result<Words, AllocError>
     Ok(Words::from_string(text))
 }
 
+/// The room of a line of a number: `row `, a sign and at most nineteen digits.
+const LINE_CAPACITY: usize = 24;
+
 fn number_line(alloc: Global, number: i64) -> Result<String, AllocError>
     ensures { IfOk result (λ line. string_bytes line ≡ meaning.number_line number) }
 {
-    let line = format!(in alloc; "row {number}")?;
+    let mut line = String::with_capacity(alloc, LINE_CAPACITY)?;
+    write!(line, "row {number}")?;
     Ok(line)
 }
 

@@ -5,7 +5,7 @@ use Rattle.outside_io.specs.declared.Fetched.TheVariants.{Got}
 use Rattle.outside_model.specs.Files.{Told}
 use Rattle.instance_cli.specs.Script.{script_of}
 use Rattle.instance_cli.specs.declared.outcome.Status.TheVariants as status
-use Rattle.instance_cli.proofs.FileFacts.{fetched, fetched_long, fetched_bytes, whole_report, whole_front, not_of_script, cut_script, is_cut, other, nothing_taken, cut_is_short, rose_later}
+use Rattle.instance_cli.proofs.FileFacts.{fetched, fetched_long, fetched_bytes, whole_report, whole_front, not_of_script, cut_script, is_cut, other, nothing_taken, cut_is_short, rose_later, script_there}
 use Rattle.instance_cli.proofs.job.run.Goals as goal
 
 pub returns : goal.returns
@@ -20,6 +20,7 @@ returns g c =
       done_refused = λ e. whole_report files _ name bytes _ _ _ c.fetch.ensures.files (fetched files name bytes 16777216 gives (run.short (other _ _ _ e (λ k. cc)))) (run.done_refused e);
       usage = λ e. not_of_script _ status.Usage run.only e (λ x. x);
       missing = λ e. absurd (not_of_script _ status.Missing run.only e (λ x. x));
+      memory = λ e. script_there files name bytes (fetched files name bytes 16777216 gives (run.short (other _ _ _ e (λ k. cc))));
       missing_cause = λ e. absurd (not_of_script _ status.Missing run.only e (λ x. x));
       read_cause = λ e. rose_later _ _ _ c.in-Got.ensures.fetches.faults (run.read_cause e);
       write_cause = λ e. run.write_cause e;
