@@ -185,7 +185,12 @@ impl Engine {
 
 impl Engine {
     /// `prepare NAME SELECT ..`.
-    fn prepare(&mut self, alloc: Global, name: &Words, select: &BuiltSelect) -> Result<Reply, AllocError>
+    fn prepare(
+        &mut self,
+        alloc: Global,
+        name: &Words,
+        select: &BuiltSelect,
+    ) -> Result<Reply, AllocError>
         ensures ok { IfOk result (λ reply. PrepareStep self.old name.now select.now reply self.new) }
         ensures err { OnErr result (self.new ≡ self.old) }
         ensures counts { self.new.executions ≤ self.old.executions + 1 }
