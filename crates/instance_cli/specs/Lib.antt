@@ -1,4 +1,5 @@
 pub mod Headline
 pub mod Report
 pub mod Script
+pub mod Statuses
 pub mod Words

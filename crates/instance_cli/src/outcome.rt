@@ -1,4 +1,6 @@
-//! How the whole job ends.
+//! How the whole job ends: the statuses, their numbers and their texts on standard error.
+ghost use Rattle.std.specs.Prelude.{◌≡◌};
+ghost use Rattle.std.specs.Option.{option_map};
 
 /// The status that the program ends with.
 #[derive(Clone, Copy, Debug, PartialEq, Eq)]
@@ -28,15 +30,34 @@ pub enum Status {
 }
 
 impl Status {
+    ghost use Rattle.instance_cli.specs.Statuses.{status_number, status_text};
+
     /// The number that the program ends with.
-    pub fn number(self) -> u8 {
-        self as u8
+    pub fn number(self) -> u8
+        ensures { result ≡ status_number self }
+    {
+        match self {
+            Status::Done => 0,
+            Status::DoneRefused => 1,
+            Status::Usage => 2,
+            Status::Missing => 3,
+            Status::ReadFault => 4,
+            Status::WriteFault => 5,
+            Status::Memory => 6,
+            Status::TooLong => 7,
+            Status::NotText => 8,
+            Status::Rejected => 9,
+            Status::BadWeights => 10,
+        }
     }
 
     /// What the program says on standard error, if anything.
-    pub fn text(self) -> Option<&'static str> {
+    pub fn text(self) -> Option<&'static str>
+        ensures { option_map (λ text. text.now) result ≡ status_text self }
+    {
         match self {
-            Status::Done | Status::DoneRefused => None,
+            Status::Done => None,
+            Status::DoneRefused => None,
             Status::Usage => Some("scr: usage"),
             Status::Missing => Some("scr: missing file"),
             Status::ReadFault => Some("scr: read fault"),
