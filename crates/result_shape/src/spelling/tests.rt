@@ -28,7 +28,11 @@ fn texts_are_quoted(rt: HostRuntime) -> Result<(), Fail> {
         ("a quote", "a\"b", "\"a\\\"b\""),
         ("a backslash at the end", "a\\", "\"a\\\\\""),
         ("a line feed at the start", "\na", "\"\\x0aa\""),
-        ("two control bytes in a row", "a\u{1}\u{1f}b", "\"a\\x01\\x1fb\""),
+        (
+            "two control bytes in a row",
+            "a\u{1}\u{1f}b",
+            "\"a\\x01\\x1fb\"",
+        ),
         ("the last of them", "\u{7f}", "\"\\x7f\""),
         ("letters of two and three bytes", "ä\t€", "\"ä\\x09€\""),
     ];
