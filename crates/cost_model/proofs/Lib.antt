@@ -1,0 +1,9 @@
+pub mod Ceilings
+pub mod CostBounds
+pub mod Growth
+pub mod LeastGrowth
+pub mod LowerBounds
+pub mod PlaceCounts
+pub mod Products
+pub mod Sets
+pub mod SoundNumbers

@@ -1,0 +1,133 @@
+-- A feasible table is below every valid plan, and a tight table is feasible.
+use Rattle.std.proofs.Common.{ℕ, ◌≡◌, ◌≤◌, ◌+◌, ◌*◌, Bool, true, false, IsTrue, List, Option, Some, None, ap, sym, refl, subst, arith, true≢false, le_trans}
+use Rattle.row_values.specs.Statements.{Statement}
+use Rattle.plan_trees.specs.declared.plans.StepKind.{StepKind}
+use Rattle.plan_trees.specs.PlaceSets.{one}
+use Rattle.plan_trees.specs.PlanSpace.{IsValidStep, IsValidPlan, IsValidTop, IsSortedPlan, has_all_keys, is_sorted_plan, wanted_order, wants_order}
+use Rattle.plan_trees.specs.Statistics.{Statistics}
+use Rattle.plan_trees.specs.Trees.{Tree, Base, Join, Sort, TopTree, Rows, SortedGroups, HashGroups, place_of, place_entering, places_of, plan_below}
+use Rattle.cost_model.specs.Cardinalities.{card_of}
+use Rattle.cost_model.specs.Costs.{step_cost, sort_cost, plan_cost, top_cost}
+use Rattle.cost_model.specs.LeastCost.{Table, AtMost, IsPlaceSet, IsPlanOf, IsTightCell, IsTight, IsFeasible, FitsTable, whole_set}
+use Rattle.cost_model.proofs.Sets.{set_of_access, set_after, set_of_plan}
+
+at_most_more : (o : Option ℕ) (m n : ℕ) → AtMost o m → m ≤ n → AtMost o n
+at_most_more None m n h k = h
+at_most_more (Some x) m n h k = omega arith
+
+not_sorted : {A : Type 0} → IsTrue false → A
+not_sorted h = absurd (true≢false (sym h))
+
+-- Feasible tables are below.
+
+below_plan : {q : Statement} {s : Statistics} {vector : List ℕ} {table : Table} (sorted : Bool) (plan : Tree) → IsFeasible q s vector table → IsValidPlan q s.indexed plan
+    → (IsTrue sorted → IsSortedPlan q plan) → AtMost (table sorted (places_of plan)) (plan_cost q s vector plan)
+below_plan sorted (Base access) f v e = f.access sorted access v e
+below_plan {q} {s} sorted (Join outer step) f v e = f.step sorted (places_of outer) _ step (set_of_plan q s.indexed outer v.0) v.1 (below_plan sorted outer f v.0 e)
+below_plan {q} {s} true (Sort outer) f v e = f.sort (places_of outer) _ (set_of_plan q s.indexed outer v.0) v.1 v.2 (below_plan false outer f v.0 not_sorted)
+below_plan {table = table} false (Sort outer) f v e = at_most_more (table false (places_of outer)) _ _ (below_plan false outer f v.0 not_sorted) (omega arith)
+
+below_top : {q : Statement} {s : Statistics} {vector : List ℕ} {table : Table} {least : ℕ} (top : TopTree) → IsFeasible q s vector table → FitsTable q s vector table least
+    → IsValidTop q s.indexed top → least ≤ top_cost q s vector top
+below_top {q} {s} {vector} {table} (Rows plan) f g v =
+    g.rows _ v.suits.0 (subst (λ n. AtMost (table (wants_order q) n) (plan_cost q s vector plan)) v.whole (below_plan (wants_order q) plan f v.plan v.suits.1))
+below_top {q} {s} {vector} {table} (SortedGroups plan) f g v =
+    rw v.whole (g.sorted_groups _ v.suits.0 (subst (λ n. AtMost (table true n) (plan_cost q s vector plan)) v.whole (below_plan true plan f v.plan (λ h. v.suits.1))))
+below_top {q} {s} {vector} {table} (HashGroups plan) f g v =
+    rw v.whole (g.hash_groups _ v.suits (subst (λ n. AtMost (table false n) (plan_cost q s vector plan)) v.whole (below_plan false plan f v.plan not_sorted)))
+
+pub below_every_top : (q : Statement) (s : Statistics) (vector : List ℕ) (table : Table) (least : ℕ) (top : TopTree) → IsFeasible q s vector table → FitsTable q s vector table least
+    → IsValidTop q s.indexed top → least ≤ top_cost q s vector top
+below_every_top q s vector table least top feasible fits valid = below_top top feasible fits valid
+
+-- Tight tables are feasible.
+
+-- a plan that costs no more than this
+record IsWithin (q : Statement) (s : Statistics) (vector : List ℕ) (sorted : Bool) (set cost : ℕ) : Type 0 where
+  plan : Tree
+  fits : IsPlanOf q s sorted set plan
+  within : plan_cost q s vector plan ≤ cost
+
+reached : (q : Statement) (s : Statistics) (vector : List ℕ) (sorted : Bool) (set cost : ℕ) (cell : Option ℕ) → IsTightCell q s vector sorted set cell → AtMost cell cost → IsWithin q s vector sorted set cost
+reached q s vector sorted set cost None t h = absurd h
+reached q s vector sorted set cost (Some n) t h = record { plan = t.plan; fits = t.fits; within = let e = t.costs in omega arith }
+
+not_above : (q : Statement) (s : Statistics) (vector : List ℕ) (sorted : Bool) (set : ℕ) (cell : Option ℕ) (plan : Tree) → IsTightCell q s vector sorted set cell → IsPlanOf q s sorted set plan → AtMost cell (plan_cost q s vector plan)
+not_above q s vector sorted set None plan t h = absurd (t plan h)
+not_above q s vector sorted set (Some n) plan t h = t.below_all plan h
+
+stepped : (q : Statement) (s : Statistics) (sorted : Bool) (set : ℕ) (step : StepKind) (plan : Tree) → IsPlanOf q s sorted set plan → IsValidStep q s.indexed set step → IsPlanOf q s sorted (set + one (place_entering step)) (Join plan step)
+stepped q s sorted set step plan h v = record {
+  valid = (h.valid, subst (λ n. IsValidStep q s.indexed n step) (sym h.whole) v);
+  whole = ap (λ n. n + one (place_entering step)) h.whole;
+  in_order = h.in_order;
+}
+
+step_from : (q : Statement) (s : Statistics) (vector : List ℕ) (step : StepKind) (places set below cost : ℕ) → places ≡ set → below ≤ cost → below + step_cost q s vector places step ≤ cost + step_cost q s vector set step
+step_from q s vector step places set below cost e h = rw e (omega arith)
+
+tight_step : (q : Statement) (s : Statistics) (vector : List ℕ) (table : Table) (least : ℕ) → IsTight q s vector table least → (sorted : Bool) (set cost : ℕ) (step : StepKind) → IsPlaceSet q set → IsValidStep q s.indexed set step
+    → AtMost (table sorted set) cost → AtMost (table sorted (set + one (place_entering step))) (cost + step_cost q s vector set step)
+tight_step q s vector table least t sorted set cost step p v h =
+    let from = reached q s vector sorted set cost (table sorted set) (t.cells sorted set p) h in
+    let after = set + one (place_entering step) in
+    at_most_more (table sorted after) _ _
+    (not_above q s vector sorted after (table sorted after) (Join from.plan step) (t.cells sorted after (set_after q s.indexed set step p v)) (stepped q s sorted set step from.plan from.fits v))
+    (step_from q s vector step (places_of from.plan) set (plan_cost q s vector from.plan) cost from.fits.whole from.within)
+
+-- a plan of the set becomes a sorted one, by a sort if it isn't one already
+sorted_by : (q : Statement) (s : Statistics) (vector : List ℕ) (set cost : ℕ) (cell : Option ℕ) (plan : Tree) (b : Bool) → IsTightCell q s vector true set cell → IsPlanOf q s false set plan → plan_cost q s vector plan ≤ cost
+    → IsTrue (wants_order q) → IsTrue (has_all_keys set (wanted_order q)) → is_sorted_plan q plan ≡ b → AtMost cell (cost + sort_cost q s vector set)
+sorted_by q s vector set cost cell plan true t fits within wants keys e =
+    at_most_more cell _ _ (not_above q s vector true set cell plan t (record { valid = fits.valid; whole = fits.whole; in_order = λ h. e })) (omega arith)
+sorted_by q s vector set cost cell plan false t fits within wants keys e =
+    at_most_more cell _ _
+    (not_above q s vector true set cell (Sort plan) t (record {
+      valid = (fits.valid, wants, subst (λ n. IsTrue (has_all_keys n (wanted_order q))) (sym fits.whole) keys, e);
+      whole = fits.whole;
+      in_order = λ h. wants;
+    }))
+    (rw fits.whole (omega arith))
+
+tight_sort : (q : Statement) (s : Statistics) (vector : List ℕ) (table : Table) (least : ℕ) → IsTight q s vector table least → (set cost : ℕ) → IsPlaceSet q set → IsTrue (wants_order q) → IsTrue (has_all_keys set (wanted_order q))
+    → AtMost (table false set) cost → AtMost (table true set) (cost + sort_cost q s vector set)
+tight_sort q s vector table least t set cost p wants keys h =
+    let from = reached q s vector false set cost (table false set) (t.cells false set p) h in
+    sorted_by q s vector set cost (table true set) from.plan (is_sorted_plan q from.plan) (t.cells true set p) from.fits from.within wants keys refl
+
+tight_feasible : (q : Statement) (s : Statistics) (vector : List ℕ) (table : Table) (least : ℕ) → IsTight q s vector table least → IsFeasible q s vector table
+tight_feasible q s vector table least t = record {
+  access = λ sorted access v e. not_above q s vector sorted (one (place_of access)) (table sorted (one (place_of access))) (Base access) (t.cells sorted _ (set_of_access q s.indexed access v)) (record { valid = v; whole = refl; in_order = e });
+  step = λ sorted set cost step p v h. tight_step q s vector table least t sorted set cost step p v h;
+  sort = λ set cost p wants keys h. tight_sort q s vector table least t set cost p wants keys h;
+}
+
+-- the whole set is one, since there is a valid top
+whole_is_set : (q : Statement) (s : Statistics) (vector : List ℕ) (table : Table) (least : ℕ) → IsTight q s vector table least → IsPlaceSet q (whole_set q)
+whole_is_set q s vector table least t =
+    let top = t.least_cost.reached.top in
+    subst (λ n. IsPlaceSet q n) t.least_cost.reached.valid.whole (set_of_plan q s.indexed (plan_below top) t.least_cost.reached.valid.plan)
+
+whole_plan : (q : Statement) (s : Statistics) (vector : List ℕ) (table : Table) (least : ℕ) → IsTight q s vector table least → (sorted : Bool) (cost : ℕ) → AtMost (table sorted (whole_set q)) cost → IsWithin q s vector sorted (whole_set q) cost
+whole_plan q s vector table least t sorted cost h = reached q s vector sorted (whole_set q) cost (table sorted (whole_set q)) (t.cells sorted _ (whole_is_set q s vector table least t)) h
+
+finished : (q : Statement) (s : Statistics) (vector : List ℕ) (places set least below cost weight : ℕ) → places ≡ set → below ≤ cost → least ≤ below + weight * card_of q s vector places → least ≤ cost + weight * card_of q s vector set
+finished q s vector places set least below cost weight e h g = let k = subst (λ n. least ≤ below + weight * card_of q s vector n) e g in omega arith
+
+tight_fits : (q : Statement) (s : Statistics) (vector : List ℕ) (table : Table) (least : ℕ) → IsTight q s vector table least → FitsTable q s vector table least
+tight_fits q s vector table least t = record {
+  rows = λ cost one_row h.
+      let from = whole_plan q s vector table least t (wants_order q) cost h in
+      le_trans (t.least_cost.below_all (Rows from.plan) (record { plan = from.fits.valid; whole = from.fits.whole; suits = (one_row, from.fits.in_order) })) from.within;
+  sorted_groups = λ cost grouped h.
+      let from = whole_plan q s vector table least t true cost h in
+      finished q s vector (places_of from.plan) (whole_set q) least (plan_cost q s vector from.plan) cost s.weights.row from.fits.whole from.within
+      (t.least_cost.below_all (SortedGroups from.plan) (record { plan = from.fits.valid; whole = from.fits.whole; suits = (grouped, from.fits.in_order refl) }));
+  hash_groups = λ cost grouped h.
+      let from = whole_plan q s vector table least t false cost h in
+      finished q s vector (places_of from.plan) (whole_set q) least (plan_cost q s vector from.plan) cost s.weights.hash from.fits.whole from.within
+      (t.least_cost.below_all (HashGroups from.plan) (record { plan = from.fits.valid; whole = from.fits.whole; suits = grouped }));
+}
+
+pub feasible_if_tight : (q : Statement) (s : Statistics) (vector : List ℕ) (table : Table) (least : ℕ) → IsTight q s vector table least → IsFeasible q s vector table × FitsTable q s vector table least
+feasible_if_tight q s vector table least tight = (tight_feasible q s vector table least tight, tight_fits q s vector table least tight)

@@ -1,0 +1,82 @@
+-- The least cost of a statement, and tables of lower bounds: tight ones, and feasible ones.
+use Rattle.std.specs.Prelude.{ℕ, ◌≡◌, ◌<◌, ◌≤◌, ◌+◌, ◌*◌, ◌^◌, Bool, true, false, IsTrue, List, length, Option, Some, None}
+use Rattle.row_values.specs.Statements.{Statement}
+use Rattle.plan_trees.specs.declared.plans.Access.{Access}
+use Rattle.plan_trees.specs.declared.plans.StepKind.{StepKind}
+use Rattle.plan_trees.specs.PlaceSets.{one, all_below}
+use Rattle.plan_trees.specs.PlanSpace.{IsValidAccess, IsValidStep, IsValidPlan, IsValidTop, IsSortedPlan, has_all_keys, is_grouped, is_sorted_access, wanted_order, wants_order}
+use Rattle.plan_trees.specs.Statistics.{Statistics}
+use Rattle.plan_trees.specs.Trees.{Tree, TopTree, place_of, place_entering, places_of}
+use Rattle.cost_model.specs.Cardinalities.{card_of}
+use Rattle.cost_model.specs.Costs.{access_unit, step_cost, sort_cost, plan_cost, top_cost}
+use Rattle.cost_model.specs.declared.scale.TheConstants.{COST_SCALE}
+
+-- a valid top that costs this
+pub record IsReached (q : Statement) (s : Statistics) (vector : List ℕ) (cost : ℕ) : Type 0 where
+  pub top : TopTree
+  pub valid : IsValidTop q s.indexed top
+  pub costs : top_cost q s vector top ≡ cost
+
+-- some valid top costs this, and none costs less
+pub record IsLeastCost (q : Statement) (s : Statistics) (vector : List ℕ) (least : ℕ) : Type 0 where
+  pub reached : IsReached q s vector least
+  pub below_all : (top : TopTree) → IsValidTop q s.indexed top → least ≤ top_cost q s vector top
+
+-- Tables: a number for each set of places, of all its plans at `false`, and at `true` of those in the wanted
+-- order. None stands for infinity.
+
+abbrev pub Table : Type 0
+Table = Bool → ℕ → Option ℕ
+
+-- a number or infinity is at most a number
+abbrev pub AtMost : Option ℕ → ℕ → Type 0
+AtMost None number = ⊥
+AtMost (Some bound) number = bound ≤ number
+
+-- some places of the statement, at least one
+pub record IsPlaceSet (q : Statement) (set : ℕ) : Type 0 where
+  pub some : 0 < set
+  pub there : set < 2 ^ length q.places
+
+-- Tight tables.
+
+-- a valid plan of exactly these places, in the wanted order at `true`
+pub record IsPlanOf (q : Statement) (s : Statistics) (sorted : Bool) (set : ℕ) (plan : Tree) : Type 0 where
+  pub valid : IsValidPlan q s.indexed plan
+  pub whole : places_of plan ≡ set
+  pub in_order : IsTrue sorted → IsSortedPlan q plan
+
+pub record IsCheapest (q : Statement) (s : Statistics) (vector : List ℕ) (sorted : Bool) (set cost : ℕ) : Type 0 where
+  pub plan : Tree
+  pub fits : IsPlanOf q s sorted set plan
+  pub costs : plan_cost q s vector plan ≡ cost
+  pub below_all : (other : Tree) → IsPlanOf q s sorted set other → cost ≤ plan_cost q s vector other
+
+-- the cell is the least cost of such plans, or none where there is no such plan
+abbrev pub IsTightCell : Statement → Statistics → List ℕ → Bool → ℕ → Option ℕ → Type 0
+IsTightCell q s vector sorted set None = (plan : Tree) → ¬ IsPlanOf q s sorted set plan
+IsTightCell q s vector sorted set (Some cost) = IsCheapest q s vector sorted set cost
+
+pub record IsTight (q : Statement) (s : Statistics) (vector : List ℕ) (table : Table) (least : ℕ) : Type 0 where
+  pub cells : (sorted : Bool) (set : ℕ) → IsPlaceSet q set → IsTightCell q s vector sorted set (table sorted set)
+  pub least_cost : IsLeastCost q s vector least
+
+-- Feasible tables.
+
+-- no cell is above what one more access, step or sort costs over the cell below it
+pub record IsFeasible (q : Statement) (s : Statistics) (vector : List ℕ) (table : Table) : Type 0 where
+  pub access : (sorted : Bool) (access : Access) → IsValidAccess q s.indexed access → (IsTrue sorted → IsTrue (is_sorted_access q access))
+      → AtMost (table sorted (one (place_of access))) (COST_SCALE * access_unit q s vector access)
+  pub step : (sorted : Bool) (set cost : ℕ) (step : StepKind) → IsPlaceSet q set → IsValidStep q s.indexed set step → AtMost (table sorted set) cost
+      → AtMost (table sorted (set + one (place_entering step))) (cost + step_cost q s vector set step)
+  pub sort : (set cost : ℕ) → IsPlaceSet q set → IsTrue (wants_order q) → IsTrue (has_all_keys set (wanted_order q)) → AtMost (table false set) cost
+      → AtMost (table true set) (cost + sort_cost q s vector set)
+
+abbrev pub whole_set : Statement → ℕ
+whole_set q = all_below (length q.places)
+
+-- the number is at most what a top makes of the cells of all places
+pub record FitsTable (q : Statement) (s : Statistics) (vector : List ℕ) (table : Table) (least : ℕ) : Type 0 where
+  pub rows : (cost : ℕ) → is_grouped q ≡ false → AtMost (table (wants_order q) (whole_set q)) cost → least ≤ cost
+  pub sorted_groups : (cost : ℕ) → is_grouped q ≡ true → AtMost (table true (whole_set q)) cost → least ≤ cost + s.weights.row * card_of q s vector (whole_set q)
+  pub hash_groups : (cost : ℕ) → is_grouped q ≡ true → AtMost (table false (whole_set q)) cost → least ≤ cost + s.weights.hash * card_of q s vector (whole_set q)

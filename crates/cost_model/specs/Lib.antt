@@ -1,0 +1,6 @@
+pub mod Cardinalities
+pub mod Checks
+pub mod Costs
+pub mod Examples
+pub mod Laws
+pub mod LeastCost

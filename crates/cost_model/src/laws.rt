@@ -1,0 +1,27 @@
+//! Laws of costs. Their promise is the clause; there is nothing to run.
+ghost use Rattle.cost_model.specs.Laws.{GrowthLaw, LeastGrowthLaw, LowerBoundLaw, TightIsFeasible, CostRangeLaw};
+
+/// Every valid plan's cost grows by at most the growth of the selectivities, and shrinks by at most their shrinking.
+pub fn cost_grows_within_selectivities()
+    ensures { GrowthLaw }
+{}
+
+/// The least cost grows by at most the growth of the selectivities, and shrinks by at most their shrinking.
+pub fn least_cost_grows_within_selectivities()
+    ensures { LeastGrowthLaw }
+{}
+
+/// No valid plan costs less than a number that fits a feasible table.
+pub fn feasible_is_below_every_plan()
+    ensures { LowerBoundLaw }
+{}
+
+/// A tight table is feasible, and the least cost fits it.
+pub fn tight_is_feasible()
+    ensures { TightIsFeasible }
+{}
+
+/// With sound statistics and a sound vector every valid plan, and every cell of a tight table, costs from 1 to below 2^124.
+pub fn costs_fit()
+    ensures { CostRangeLaw }
+{}

@@ -1,0 +1,3 @@
+pub mod Cards
+pub mod Factors
+pub mod Quotients

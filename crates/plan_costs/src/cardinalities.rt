@@ -1,0 +1,158 @@
+//! Cardinalities of sets of places.
+//!
+//! The divisor of a cardinality can pass 128 bits, so its factors divide one after the other, each rounding up: that
+//! is as if their product divided at once.
+ghost use Rattle.std.specs.Prelude.{ℕ, ◌≡◌, ◌==◌, ◌&&◌, if◌then◌else◌, not, ◌<◌, ◌≤◌, ◌^◌, All, length, map, slice_index};
+ghost use Rattle.std.specs.Int.{div_ceil};
+ghost use Rattle.row_values.specs.Statements.{is_parameterised as is_parameterised_pred, operand_parameters, selectivity_count};
+ghost use Rattle.plan_trees.specs.PlaceSets.{has};
+ghost use Rattle.plan_trees.specs.Statistics.{IsSoundStats, IsSoundVector, selectivity_places};
+ghost use Rattle.cost_model.specs.Cardinalities.{card_of, is_inside, marked_product, product_over};
+
+use cost_model::COST_SCALE;
+use plan_trees::{Stats, has_place};
+use row_values::{Edge, Operand, Pred, Query, Test};
+
+/// Whether the operand is a parameter.
+fn is_parameter(operand: &Operand) -> bool
+    ensures { result ≡ not (length (operand_parameters operand.now) == 0) }
+{
+    match operand {
+        Operand::Literal(_) => false,
+        Operand::Param(_) => true,
+    }
+}
+
+/// Whether some operand of the predicate is a parameter.
+pub(crate) fn is_parameterised(pred: &Pred) -> bool
+    ensures { result ≡ is_parameterised_pred pred.now }
+{
+    match &pred.test {
+        Test::Lt(a) => is_parameter(a),
+        Test::Le(a) => is_parameter(a),
+        Test::Gt(a) => is_parameter(a),
+        Test::Ge(a) => is_parameter(a),
+        Test::Eq(a) => is_parameter(a),
+        Test::Between(a, b) => is_parameter(a) || is_parameter(b),
+    }
+}
+
+/// The rows that meet the fixed predicates on the place, if it is in the set; else 1.
+fn fixed_factor(stats: &Stats, set: u8, place: u8) -> u64
+    requires { place < length stats.now.fixed }
+    ensures { result ≡ (if has set place then slice_index stats.now.fixed place else 1) }
+{
+    if has_place(set, place) {
+        stats.fixed(place)
+    } else {
+        1
+    }
+}
+
+/// The rows that meet the fixed predicates, multiplied over the places of the set.
+fn fixed_product(stats: &Stats, places: u8, set: u8) -> u64
+    requires whole { places ≡ length stats.now.fixed }
+    requires some { (k : ℕ) → k < length stats.now.fixed → 1 ≤ slice_index stats.now.fixed k }
+    requires small { product_over set 0 stats.now.fixed ≤ 2 ^ 63 }
+    ensures { result ≡ product_over set 0 stats.now.fixed }
+{
+    let mut product = 1;
+    for place in 0..places {
+        product *= fixed_factor(stats, set, place);
+    }
+    product
+}
+
+/// The rows of the predicate's place, if it is parameterised and its place is in the set; else 1.
+fn rows_factor(stats: &Stats, set: u8, pred: &Pred) -> u64
+    requires { pred.now.at.place < length stats.now.rows }
+    ensures { result ≡ (if is_parameterised_pred pred.now && has set pred.now.at.place
+        then slice_index stats.now.rows pred.now.at.place else 1) }
+{
+    if is_parameterised(pred) && has_place(set, pred.at.place) {
+        stats.rows(pred.at.place)
+    } else {
+        1
+    }
+}
+
+/// The number divided by the rows of each parameterised predicate's place in the set, rounded up.
+fn by_selected_rows(number: u128, preds: &[Pred], stats: &Stats, set: u8) -> u128
+    requires there { All (λ pred. pred.at.place < length stats.now.rows) preds.now }
+    requires some { (k : ℕ) → k < length stats.now.rows → 1 ≤ slice_index stats.now.rows k }
+    ensures { result ≡ div_ceil number (marked_product (map (has set) (selectivity_places preds.now))
+        (map (slice_index stats.now.rows) (selectivity_places preds.now))) }
+{
+    let mut left = number;
+    for pred in preds {
+        let factor = rows_factor(stats, set, pred);
+        left = left.div_ceil(u128::from(factor));
+    }
+    left
+}
+
+/// The distinct count of the edge of this number, if its places are in the set; else 1.
+fn distinct_factor(stats: &Stats, set: u8, number: u8, edge: &Edge) -> u64
+    requires { number < length stats.now.distinct }
+    ensures { result ≡ (if is_inside set edge.now then slice_index stats.now.distinct number else 1) }
+{
+    if has_place(set, edge.left.place) && has_place(set, edge.right.place) {
+        stats.edge_distinct(number)
+    } else {
+        1
+    }
+}
+
+/// The number divided by the distinct count of each edge inside the set, rounded up.
+fn by_distinct(number: u128, edges: &[Edge], stats: &Stats, set: u8) -> u128
+    requires each { length edges.now ≡ length stats.now.distinct }
+    requires few { length edges.now ≤ 32 }
+    requires some { (k : ℕ) → k < length stats.now.distinct → 1 ≤ slice_index stats.now.distinct k }
+    ensures { result ≡ div_ceil number (marked_product (map (is_inside set) edges.now) stats.now.distinct) }
+{
+    let mut left = number;
+    for (i, edge) in edges.iter().enumerate() {
+        let factor = distinct_factor(stats, set, i as u8, edge);
+        left = left.div_ceil(u128::from(factor));
+    }
+    left
+}
+
+/// The number, if the place is in the set; else 1.
+fn selected_factor(set: u8, place: u8, number: u64) -> u64
+    ensures { result ≡ (if has set place then number else 1) }
+{
+    if has_place(set, place) { number } else { 1 }
+}
+
+/// The selectivities of the predicates on the places of the set, multiplied.
+fn selected_product(preds: &[Pred], set: u8, s: &[u64]) -> u64
+    requires each { length s.now ≡ selectivity_count preds.now }
+    requires some { (k : ℕ) → k < length s.now → 1 ≤ slice_index s.now k }
+    requires small { marked_product (map (has set) (selectivity_places preds.now)) s.now ≤ 2 ^ 63 }
+    ensures { result ≡ marked_product (map (has set) (selectivity_places preds.now)) s.now }
+{
+    let mut product = 1;
+    let mut next = 0;
+    for pred in preds {
+        if is_parameterised(pred) {
+            product *= selected_factor(set, pred.at.place, s[next]);
+            next += 1;
+        }
+    }
+    product
+}
+
+/// The cardinality of the set of places at the vector, on the cost scale.
+pub fn card(q: &Query, stats: &Stats, set: u8, s: &[u64]) -> u128
+    requires sound { IsSoundStats q.now stats.now }
+    requires vector { IsSoundVector q.now stats.now s.now }
+    requires there { set < 2 ^ length q.now.places }
+    ensures value { result ≡ card_of q.now stats.now s.now set }
+{
+    let fixed = fixed_product(stats, q.places().len() as u8, set);
+    let start = COST_SCALE * u128::from(fixed);
+    let over_rows = by_selected_rows(start, q.preds(), stats, set);
+    let kappa = by_distinct(over_rows, q.edges(), stats, set);
+    kappa * u128::from(selected_product(q.preds(), set, s))
+}
