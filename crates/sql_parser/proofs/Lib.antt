@@ -3,6 +3,7 @@ pub mod First
 pub mod Good
 pub mod Lexing
 pub mod Lists
+pub mod Spelled
 pub mod Spellings
 pub mod Texts
 pub mod Quotes

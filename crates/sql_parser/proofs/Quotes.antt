@@ -6,17 +6,17 @@ use Rattle.sql_parser.specs.Tokens.{doubled, begins_with, is_quote}
 use Rattle.sql_parser.proofs.Runs.{each_parts}
 
 -- a byte doubled, or alone
-double_at : (q b : ℕ) (bs : List ℕ) → ((b ≡ q) × (doubled q (b ∷ bs) ≡ q ∷ q ∷ doubled q bs)) ⊎ (((b == q) ≡ false) × (doubled q (b ∷ bs) ≡ b ∷ doubled q bs))
+pub double_at : (q b : ℕ) (bs : List ℕ) → ((b ≡ q) × (doubled q (b ∷ bs) ≡ q ∷ q ∷ doubled q bs)) ⊎ (((b == q) ≡ false) × (doubled q (b ∷ bs) ≡ b ∷ doubled q bs))
 double_at q b bs =
     let step : (v : Bool) → (b == q) ≡ v → ((b ≡ q) × (cond v (q ∷ q ∷ doubled q bs) (b ∷ doubled q bs) ≡ q ∷ q ∷ doubled q bs)) ⊎ (((b == q) ≡ false) × (cond v (q ∷ q ∷ doubled q bs) (b ∷ doubled q bs) ≡ b ∷ doubled q bs)) =
     λ v. elim v as (λ v. (b == q) ≡ v → ((b ≡ q) × (cond v (q ∷ q ∷ doubled q bs) (b ∷ doubled q bs) ≡ q ∷ q ∷ doubled q bs)) ⊎ (((b == q) ≡ false) × (cond v (q ∷ q ∷ doubled q bs) (b ∷ doubled q bs) ≡ b ∷ doubled q bs)))
     [ true ↦ λ e. inl (eqb-true b q e, refl) | false ↦ λ e. inr (e, refl) ]
     in step (b == q) refl
 
-differ : (q b : ℕ) → (b == q) ≡ false → b ≡ q → ⊥
+pub differ : (q b : ℕ) → (b == q) ≡ false → b ≡ q → ⊥
 differ q b f e = let t = eq-eqb q q refl in let s : (b == q) ≡ true = rw e t in cc
 
-begins : (q : ℕ) (x y : List ℕ) → x ≡ q ∷ y → begins_with (is_quote q) x ≡ false → ⊥
+pub begins : (q : ℕ) (x y : List ℕ) → x ≡ q ∷ y → begins_with (is_quote q) x ≡ false → ⊥
 begins q x y e f = let t = eq-eqb q q refl in let s : begins_with (is_quote q) x ≡ true = rw e t in cc
 
 -- one text has one content before its closing quote

@@ -265,7 +265,7 @@ text_found text inside content len t h =
     let P : List ℕ → Type 0 = λ w. IsFirst (token.Literal (Text content)) text w in
     (subst P (sym (token_rest 39 text inside len t)) (text_first text inside content (drop len inside) t h.0 h.1), token_cut 39 text inside len t h.2)
 
-none_of : (l d p q : Bool) → l ≡ false → d ≡ false → p ≡ false → q ≡ false → (((l || d) || p) || q) ≡ false
+pub none_of : (l d p q : Bool) → l ≡ false → d ≡ false → p ≡ false → q ≡ false → (((l || d) || p) || q) ≡ false
 none_of l d p q a b c e = rw (a, b, c, e) refl
 
 -- a first byte that begins nothing but a sign

@@ -420,7 +420,7 @@ white_on white text tokens h (next w t rest k first more) =
     let P : List ℕ → Type 0 = λ z. AreTokens z tokens in
     subst P (append_assoc white w t) (next (white ++ w) t rest (each_append is_white white w h k) first more)
 
-white_all : (text : List ℕ) → each is_white text ≡ true → drop (prefix_len is_white text) text ≡ []
+pub white_all : (text : List ℕ) → each is_white text ≡ true → drop (prefix_len is_white text) text ≡ []
 white_all text k =
     let run : prefix_len is_white (text ++ []) ≡ length text = run_is is_white text [] k refl in
     let P : List ℕ → Type 0 = λ z. drop (prefix_len is_white z) z ≡ [] in
@@ -490,7 +490,7 @@ pub record ReadSoFar (text : List ℕ) (read : List Token) (rest : List ℕ) : T
 after : List ℕ → List ℕ
 after text = drop (prefix_len is_white text) text
 
-white_back : (text : List ℕ) (tokens : List Token) → AreTokens (drop (prefix_len is_white text) text) tokens → AreTokens text tokens
+pub white_back : (text : List ℕ) (tokens : List Token) → AreTokens (drop (prefix_len is_white text) text) tokens → AreTokens text tokens
 white_back text tokens are =
     let P : List ℕ → Type 0 = λ z. AreTokens z tokens in
     subst P (take-append-drop (prefix_len is_white text) text)
@@ -542,7 +542,7 @@ read_stuck text read rest so_far l no_first others are =
     let f = so_far.complete others are in nothing_first rest f.others no_first so_far.black l f.are
 
 -- each token makes the rest shorter
-front_some : (t : Token) (front rest : List ℕ) → Spells t front rest → 0 < length front
+pub front_some : (t : Token) (front rest : List ℕ) → Spells t front rest → 0 < length front
 front_some t [] rest s = absurd (nothing_spells t rest s)
 front_some t (b ∷ bs) rest s = omega arith
 

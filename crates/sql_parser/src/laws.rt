@@ -1,7 +1,8 @@
 //! Laws on the grammar and the canonical spelling, each the contract of a function that does nothing.
-ghost use Rattle.std.specs.Prelude.{◌≡◌, ℕ, List};
+ghost use Rattle.std.specs.Prelude.{◌≡◌, ℕ, List, Some};
 ghost use Rattle.sql_parser.specs.Grammar.{IsStatementText};
 ghost use Rattle.sql_parser.specs.Canonical.{canonical_text};
+ghost use Rattle.sql_parser.specs.Spelled.{statement_of};
 ghost use Rattle.sql_parser.specs.Statement.{Parts, IsSound};
 
 /// The grammar is unambiguous: no text has two readings.
@@ -12,4 +13,11 @@ pub fn one_reading()
 /// The canonical spelling of a statement is a text of the grammar, and this statement is what it spells.
 pub fn canonical_text_is_read()
     ensures { (s : Parts) → IsSound s → IsStatementText (canonical_text s) s }
+{}
+
+/// The statement that a text spells, as a function of the text, is the one that the grammar relates to it, and there is
+/// none exactly where the grammar relates none.
+pub fn statement_of_is_the_grammar()
+    ensures only { (text : List ℕ) (s : Parts) → statement_of text ≡ Some s → IsStatementText text s }
+    ensures all { (text : List ℕ) (s : Parts) → IsStatementText text s → statement_of text ≡ Some s }
 {}
