@@ -1,4 +1,5 @@
 pub mod Canonical
+pub mod Examples
 pub mod Grammar
 pub mod Reading
 pub mod Spelled
