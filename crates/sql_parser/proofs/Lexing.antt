@@ -31,13 +31,16 @@ use Rattle.std.specs.Str.Parse.{without_leading_sign, IsNumeral, signed_digits_v
 use Rattle.std.specs.List.{prefix_len, starts_with}
 use Rattle.row_values.specs.declared.values.Value.TheVariants.{Int, Text}
 use Rattle.sql_parser.specs.Statement.{each, is_some, is_name, is_i64, is_ref_of, is_ref, is_item, is_place, is_operand, is_test, is_cond, is_key, IsSound}
-use Rattle.sql_parser.specs.Tokens.{is_letter, is_name_byte, is_word, mark_text, is_reserved, doubled, quoted, without_minus, begins_with, is_quote, is_digit_or_minus, is_other, Spells, plain_name, reserved_or_sign, IsFirst, AreTokens, none, next}
-use Rattle.sql_parser.specs.Canonical.{is_plain, name_text, ref_text_of, ref_text, item_text, place_text, operand_text, test_text, cond_text, key_text, behind_text, listed_text, canonical_text}
+use Rattle.sql_parser.specs.Tokens.{is_letter, is_name_byte, is_word, mark_text, doubled, quoted, without_minus, begins_with, is_quote, is_digit_or_minus, is_other, Spells, plain_name, reserved_or_sign, IsFirst, AreTokens, none, next}
+use Rattle.row_values.specs.Names.{canonical_name, quoted_name}
+use Rattle.row_values.specs.Plain.{is_plain}
+use Rattle.sql_parser.specs.Canonical.{ref_text_of, ref_text, item_text, place_text, operand_text, test_text, cond_text, key_text, behind_text, listed_text, canonical_text}
 use Rattle.sql_parser.specs.declared.tokens.TheConstants.{SIGNS}
 use Rattle.sql_parser.proofs.Runs.{both, and_true, run_is}
 use Rattle.sql_parser.proofs.First.{word_first, number_first, name_first, text_first, same_sign_off, tested_fits}
 use Rattle.sql_parser.proofs.Shapes.{all_digits}
 use Rattle.sql_parser.proofs.Signs.{spells_itself, sign_first}
+use Rattle.sql_parser.proofs.Spellings.{quoted_is, plain_word}
 use Rattle.std.proofs.Math.Seq.{take-append_seam, drop-append_seam}
 
 -- ---- one token and the text behind it
@@ -110,17 +113,18 @@ word_at t (b ∷ bs) rest h e s =
 quoted_name_at : (n rest : List ℕ) → is_name n ≡ true → begins_with (is_quote 34) rest ≡ false → IsFirst (token.Name n) (quoted 34 n ++ rest) rest
 quoted_name_at n rest h e = name_first (quoted 34 n ++ rest) (doubled 34 n ++ 34 ∷ [] ++ rest) n rest refl (append_assoc (doubled 34 n) (34 ∷ []) rest) e h
 
-name_at_front : (n rest : List ℕ) → is_name n ≡ true → stops rest ≡ true → IsFirst (token.Name n) (name_text n ++ rest) rest
+name_at_front : (n rest : List ℕ) → is_name n ≡ true → stops rest ≡ true → IsFirst (token.Name n) (canonical_name n ++ rest) rest
 name_at_front n rest h e =
-    let step : (v : Bool) → is_plain n ≡ v → IsFirst (token.Name n) (cond v n (quoted 34 n) ++ rest) rest =
-    λ v. elim v as (λ v. is_plain n ≡ v → IsFirst (token.Name n) (cond v n (quoted 34 n) ++ rest) rest) [
-      | true ↦ λ p. (let ps = both (is_word n) (not (is_reserved n)) p in word_at (token.Name n) n rest ps.0 (stop_name rest e).0 (plain_name ps.0 (not_false (is_reserved n) ps.1)))
-      | false ↦ λ p. quoted_name_at n rest h (stop_name rest e).1
+    let P : List ℕ → Type 0 = λ z. IsFirst (token.Name n) (z ++ rest) rest in
+    let step : (v : Bool) → is_plain n ≡ v → P (cond v n (quoted_name n)) =
+    λ v. elim v as (λ v. is_plain n ≡ v → P (cond v n (quoted_name n))) [
+      | true ↦ λ p. (let ps = plain_word n p in word_at (token.Name n) n rest ps.0 (stop_name rest e).0 (plain_name ps.0 ps.1))
+      | false ↦ λ p. subst P (sym (quoted_is n)) (quoted_name_at n rest h (stop_name rest e).1)
     ]
     in step (is_plain n) refl
 
-name_token : (n rest : List ℕ) (ts : List Token) → is_name n ≡ true → stops rest ≡ true → AreTokens rest ts → AreTokens (name_text n ++ rest) (token.Name n ∷ ts)
-name_token n rest ts h e are = one_token (token.Name n) (name_text n ++ rest) rest ts (name_at_front n rest h e) are
+name_token : (n rest : List ℕ) (ts : List Token) → is_name n ≡ true → stops rest ≡ true → AreTokens rest ts → AreTokens (canonical_name n ++ rest) (token.Name n ∷ ts)
+name_token n rest ts h e are = one_token (token.Name n) (canonical_name n ++ rest) rest ts (name_at_front n rest h e) are
 
 text_token : (t rest : List ℕ) (ts : List Token) → stops rest ≡ true → AreTokens rest ts → AreTokens (quoted 39 t ++ rest) (token.Literal (Text t) ∷ ts)
 text_token t rest ts e are =
@@ -251,12 +255,12 @@ regroup : (a b c d : List ℕ) → ((a ++ b) ++ c) ++ d ≡ a ++ (b ++ (c ++ d))
 regroup a b c d = append_assoc (a ++ b) c d ∙ append_assoc a b (c ++ d)
 
 dotted_read : (alias col rest : List ℕ) (ts : List Token) → is_name alias ≡ true → is_name col ≡ true → stops rest ≡ true → AreTokens rest ts
-    → AreTokens ((name_text alias ++ codes "." ++ name_text col) ++ rest) (token.Name alias ∷ token.Mark mark.Dot ∷ token.Name col ∷ ts)
+    → AreTokens ((canonical_name alias ++ codes "." ++ canonical_name col) ++ rest) (token.Name alias ∷ token.Mark mark.Dot ∷ token.Name col ∷ ts)
 dotted_read alias col rest ts h k s are =
     let P : List ℕ → Type 0 = λ z. AreTokens z (token.Name alias ∷ token.Mark mark.Dot ∷ token.Name col ∷ ts) in
-    let w : (name_text alias ++ codes "." ++ name_text col) ++ rest ≡ name_text alias ++ (46 ∷ (name_text col ++ rest)) = regroup (name_text alias) (46 ∷ []) (name_text col) rest in
-    subst P (sym w) (name_token alias (46 ∷ (name_text col ++ rest)) (token.Mark mark.Dot ∷ token.Name col ∷ ts) h refl
-    (dot_token (name_text col ++ rest) (token.Name col ∷ ts) (name_token col rest ts k s are)))
+    let w : (canonical_name alias ++ codes "." ++ canonical_name col) ++ rest ≡ canonical_name alias ++ (46 ∷ (canonical_name col ++ rest)) = regroup (canonical_name alias) (46 ∷ []) (canonical_name col) rest in
+    subst P (sym w) (name_token alias (46 ∷ (canonical_name col ++ rest)) (token.Mark mark.Dot ∷ token.Name col ∷ ts) h refl
+    (dot_token (canonical_name col ++ rest) (token.Name col ∷ ts) (name_token col rest ts k s are)))
 
 ref_of_spelled : (alias : Option (List ℕ)) (col : List ℕ) → is_ref_of alias col ≡ true → Spelled IsRef (record { alias = alias; column = col }) (ref_text_of alias col)
 ref_of_spelled None col h = record { tokens = token.Name col ∷ []; is = plain; read = λ rest ts s are. name_token col rest ts h s are }
@@ -317,29 +321,29 @@ item_spelled (item.Max r) h = let sp = ref_spelled r h in record {
 
 -- places
 as_read : (table alias rest : List ℕ) (ts : List Token) → is_name table ≡ true → is_name alias ≡ true → stops rest ≡ true → AreTokens rest ts
-    → AreTokens ((name_text table ++ (codes " AS " ++ name_text alias)) ++ rest) (token.Name table ∷ token.Mark mark.As ∷ token.Name alias ∷ ts)
+    → AreTokens ((canonical_name table ++ (codes " AS " ++ canonical_name alias)) ++ rest) (token.Name table ∷ token.Mark mark.As ∷ token.Name alias ∷ ts)
 as_read table alias rest ts h k s are =
-    let e = append_assoc (name_text table) (codes " AS " ++ name_text alias) rest in
-    at_text _ _ _ _ (sym e) refl (name_token table (32 ∷ 65 ∷ 83 ∷ 32 ∷ (name_text alias ++ rest)) (token.Mark mark.As ∷ token.Name alias ∷ ts) h refl
-    (space (65 ∷ 83 ∷ 32 ∷ (name_text alias ++ rest)) (token.Mark mark.As ∷ token.Name alias ∷ ts)
-    (word_mark mark.As (32 ∷ (name_text alias ++ rest)) (token.Name alias ∷ ts) refl refl
-    (space (name_text alias ++ rest) (token.Name alias ∷ ts) (name_token alias rest ts k s are)))))
+    let e = append_assoc (canonical_name table) (codes " AS " ++ canonical_name alias) rest in
+    at_text _ _ _ _ (sym e) refl (name_token table (32 ∷ 65 ∷ 83 ∷ 32 ∷ (canonical_name alias ++ rest)) (token.Mark mark.As ∷ token.Name alias ∷ ts) h refl
+    (space (65 ∷ 83 ∷ 32 ∷ (canonical_name alias ++ rest)) (token.Mark mark.As ∷ token.Name alias ∷ ts)
+    (word_mark mark.As (32 ∷ (canonical_name alias ++ rest)) (token.Name alias ∷ ts) refl refl
+    (space (canonical_name alias ++ rest) (token.Name alias ∷ ts) (name_token alias rest ts k s are)))))
 
-bare_read : (table rest : List ℕ) (ts : List Token) → is_name table ≡ true → stops rest ≡ true → AreTokens rest ts → AreTokens ((name_text table ++ []) ++ rest) (token.Name table ∷ ts)
-bare_read table rest ts h s are = at_text _ _ _ _ (ap (λ z. z ++ rest) (sym (append-nil (name_text table)))) refl (name_token table rest ts h s are)
+bare_read : (table rest : List ℕ) (ts : List Token) → is_name table ≡ true → stops rest ≡ true → AreTokens rest ts → AreTokens ((canonical_name table ++ []) ++ rest) (token.Name table ∷ ts)
+bare_read table rest ts h s are = at_text _ _ _ _ (ap (λ z. z ++ rest) (sym (append-nil (canonical_name table)))) refl (name_token table rest ts h s are)
 
 same_bytes : (a b : List ℕ) → bytes_eq a b ≡ true → a ≡ b
 same_bytes a b h = grind (arith, bytes_eq-Decides a b)
 
-same_alias : (table alias : List ℕ) → is_name table ≡ true → alias ≡ table → Spelled IsPlace (record { table = table; alias = alias }) (name_text table ++ [])
+same_alias : (table alias : List ℕ) → is_name table ≡ true → alias ≡ table → Spelled IsPlace (record { table = table; alias = alias }) (canonical_name table ++ [])
 same_alias table alias h e =
-    let P : List ℕ → Type 0 = λ z. Spelled IsPlace (record { table = table; alias = z }) (name_text table ++ []) in
+    let P : List ℕ → Type 0 = λ z. Spelled IsPlace (record { table = table; alias = z }) (canonical_name table ++ []) in
     subst P (sym e) (record { tokens = token.Name table ∷ []; is = bare; read = λ rest ts s are. bare_read table rest ts h s are })
 
-place_of_spelled : (table alias : List ℕ) → is_name table ≡ true → is_name alias ≡ true → Spelled IsPlace (record { table = table; alias = alias }) (name_text table ++ (cond (bytes_eq alias table) [] (codes " AS " ++ name_text alias)))
+place_of_spelled : (table alias : List ℕ) → is_name table ≡ true → is_name alias ≡ true → Spelled IsPlace (record { table = table; alias = alias }) (canonical_name table ++ (cond (bytes_eq alias table) [] (codes " AS " ++ canonical_name alias)))
 place_of_spelled table alias h k =
-    let step : (v : Bool) → bytes_eq alias table ≡ v → Spelled IsPlace (record { table = table; alias = alias }) (name_text table ++ (cond v [] (codes " AS " ++ name_text alias))) =
-    λ v. elim v as (λ v. bytes_eq alias table ≡ v → Spelled IsPlace (record { table = table; alias = alias }) (name_text table ++ (cond v [] (codes " AS " ++ name_text alias)))) [
+    let step : (v : Bool) → bytes_eq alias table ≡ v → Spelled IsPlace (record { table = table; alias = alias }) (canonical_name table ++ (cond v [] (codes " AS " ++ canonical_name alias))) =
+    λ v. elim v as (λ v. bytes_eq alias table ≡ v → Spelled IsPlace (record { table = table; alias = alias }) (canonical_name table ++ (cond v [] (codes " AS " ++ canonical_name alias)))) [
       | true ↦ λ e. same_alias table alias h (same_bytes alias table e)
       | false ↦ λ e. record { tokens = token.Name table ∷ token.Mark mark.As ∷ token.Name alias ∷ []; is = called_as; read = λ rest ts s are. as_read table alias rest ts h k s are }
     ]

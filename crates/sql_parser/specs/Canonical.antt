@@ -1,10 +1,11 @@
 -- The one canonical spelling of a statement.
-use Rattle.std.specs.Prelude.{ℕ, List, [], ◌∷◌, ◌++◌, Bool, not, ◌&&◌, if◌then◌else◌, codes, Option, Some, None}
+use Rattle.std.specs.Prelude.{ℕ, List, [], ◌∷◌, ◌++◌, if◌then◌else◌, codes, Option, Some, None}
 use Rattle.std.specs.Fmt.{signed_decimal}
 use Rattle.std.specs.Str.{bytes_eq}
+use Rattle.row_values.specs.Names.{canonical_name}
 use Rattle.row_values.specs.declared.values.Value.TheVariants.{Int, Text}
 use Rattle.sql_parser.specs.Statement.{Parts}
-use Rattle.sql_parser.specs.Tokens.{is_word, is_reserved, quoted}
+use Rattle.sql_parser.specs.Tokens.{quoted}
 use Rattle.sql_parser.specs.declared.statement.RawRef.{RawRef}
 use Rattle.sql_parser.specs.declared.statement.RawPlace.{RawPlace}
 use Rattle.sql_parser.specs.declared.statement.RawItem.{RawItem}
@@ -17,17 +18,9 @@ use Rattle.sql_parser.specs.declared.statement.RawCond.{RawCond}
 use Rattle.sql_parser.specs.declared.statement.RawCond.TheVariants as cond
 use Rattle.sql_parser.specs.declared.statement.RawKey.{RawKey}
 
--- whether a name needs no quotes
-abbrev pub is_plain : List ℕ → Bool
-is_plain name = is_word name && not (is_reserved name)
-
--- a name plain where that is one, and else between double quotes
-abbrev pub name_text : List ℕ → List ℕ
-name_text name = (if is_plain name then name else quoted 34 name)
-
 abbrev pub ref_text_of : Option (List ℕ) → List ℕ → List ℕ
-ref_text_of None column = name_text column
-ref_text_of (Some alias) column = name_text alias ++ codes "." ++ name_text column
+ref_text_of None column = canonical_name column
+ref_text_of (Some alias) column = canonical_name alias ++ codes "." ++ canonical_name column
 
 abbrev pub ref_text : RawRef → List ℕ
 ref_text r = ref_text_of r.alias r.column
@@ -41,7 +34,7 @@ item_text (item.Max r) = codes "MAX(" ++ ref_text r ++ codes ")"
 
 -- the alias where it isn't the table's name
 abbrev pub place_text : RawPlace → List ℕ
-place_text place = name_text place.table ++ (if bytes_eq place.alias place.table then [] else codes " AS " ++ name_text place.alias)
+place_text place = canonical_name place.table ++ (if bytes_eq place.alias place.table then [] else codes " AS " ++ canonical_name place.alias)
 
 abbrev pub operand_text : RawOperand → List ℕ
 operand_text (operand.Literal (Int number)) = signed_decimal number

@@ -1,45 +1,14 @@
 //! From a statement to its one canonical spelling.
 //!
-//! Each part is written at the end of the text so far. `print` is the one way in.
+//! Each part is written at the end of the text so far, each name in its canonical spelling. `print` is the one way in.
 ghost use Rattle.std.specs.Prelude.{◌≡◌, ◌++◌, ◌<◌, codes, OnOk, IfOk, string_bytes};
-ghost use Rattle.sql_parser.specs.Statement.{each};
 ghost use Rattle.sql_parser.specs.Grammar.{IsStatementText};
 ghost use Rattle.sql_parser.specs.Tokens as token;
 ghost use Rattle.sql_parser.specs.Canonical as spelled;
 
 use crate::statement::{RawCond, RawItem, RawKey, RawOperand, RawPlace, RawRef, RawTest, Select};
-use crate::tokens::{RESERVED, is_letter, is_name_byte, mark_of};
-use row_values::{Value, Words};
+use row_values::{Value, Words, push_name};
 use std::alloc::{AllocError, Global};
-
-/// Whether the bytes are a letter and then letters and digits.
-fn is_word(name: &str) -> bool
-    ensures { result ≡ token.is_word name.now }
-{
-    match name.as_bytes() {
-        [first, rest @ ..] => is_letter(*first) && goes_on(rest),
-        [] => false,
-    }
-}
-
-/// Whether each byte goes on a word.
-fn goes_on(bytes: &[u8]) -> bool
-    ensures { result ≡ each token.is_name_byte bytes.now }
-{
-    for byte in bytes {
-        if !is_name_byte(*byte) {
-            return false;
-        }
-    }
-    true
-}
-
-/// Whether a name needs no quotes.
-fn is_plain(name: &str) -> bool
-    ensures { result ≡ spelled.is_plain name.now }
-{
-    is_word(name) && mark_of(&RESERVED, name).is_none()
-}
 
 /// Writes a text between quotes, each quote in it doubled.
 fn push_quoted(out: &mut String, quote: char, text: &str) -> Result<(), AllocError>
@@ -59,27 +28,15 @@ fn push_quoted(out: &mut String, quote: char, text: &str) -> Result<(), AllocErr
     Ok(())
 }
 
-/// Writes a name.
-fn push_name(out: &mut String, name: &Words) -> Result<(), AllocError>
-    ensures { OnOk result (string_bytes out.new ≡ string_bytes out.old ++ spelled.name_text name.now) }
-{
-    let text = name.as_str();
-    if is_plain(text) {
-        out.push_str(text)
-    } else {
-        push_quoted(out, '"', text)
-    }
-}
-
 /// Writes a reference.
 fn push_ref(out: &mut String, at: &RawRef) -> Result<(), AllocError>
     ensures { OnOk result (string_bytes out.new ≡ string_bytes out.old ++ spelled.ref_text at.now) }
 {
     if let Some(alias) = &at.alias {
-        push_name(out, alias)?;
+        push_name(out, alias.as_str())?;
         out.push_str(".")?;
     }
-    push_name(out, &at.column)?;
+    push_name(out, at.column.as_str())?;
     Ok(())
 }
 
@@ -110,12 +67,12 @@ fn push_item(out: &mut String, item: &RawItem) -> Result<(), AllocError>
 fn push_place(out: &mut String, place: &RawPlace) -> Result<(), AllocError>
     ensures { OnOk result (string_bytes out.new ≡ string_bytes out.old ++ spelled.place_text place.now) }
 {
-    push_name(out, &place.table)?;
+    push_name(out, place.table.as_str())?;
     if place.alias == place.table {
         return Ok(());
     }
     out.push_str(" AS ")?;
-    push_name(out, &place.alias)?;
+    push_name(out, place.alias.as_str())?;
     Ok(())
 }
 

@@ -146,14 +146,14 @@ fn is_white(byte: u8) -> bool
 }
 
 /// Whether a byte begins a word.
-pub fn is_letter(byte: u8) -> bool
+fn is_letter(byte: u8) -> bool
     ensures { result ≡ spelled.is_letter byte }
 {
     byte.is_ascii_alphabetic() || byte == b'_'
 }
 
 /// Whether a byte goes on a word.
-pub fn is_name_byte(byte: u8) -> bool
+fn is_name_byte(byte: u8) -> bool
     ensures { result ≡ spelled.is_name_byte byte }
 {
     is_letter(byte) || byte.is_ascii_digit()
@@ -190,7 +190,7 @@ fn digits_len(bytes: &[u8]) -> usize
 }
 
 /// The first of these marks that the bytes are, in any case of letters.
-pub fn mark_of(marks: &[Mark], word: &str) -> Option<Mark>
+fn mark_of(marks: &[Mark], word: &str) -> Option<Mark>
     ensures { result ≡ find (λ m. spelled.is_spelled word.now m) marks.now }
 {
     marks
