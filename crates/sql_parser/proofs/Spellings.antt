@@ -23,12 +23,12 @@ doubled_at : (q : ℕ) (rest part behind : List ℕ) → rest ≡ part ++ q ∷ 
 doubled_at q rest part behind e h =
     ap (doubled q) e ∙ doubled_append q part (q ∷ behind) ∙ ap (λ z. z ++ doubled q (q ∷ behind)) (doubled_plain q part h) ∙ ap (λ z. part ++ z) (doubled_head q behind)
 
-pub quote_step : (q : ℕ) (o o1 o2 o3 whole rest part behind : List ℕ) → o1 ≡ o ++ part → o2 ≡ o1 ++ q ∷ [] → o3 ≡ o2 ++ q ∷ [] → rest ≡ part ++ q ∷ behind
-    → each (λ b. not (b == q)) part ≡ true → o ++ (doubled q rest ++ q ∷ []) ≡ whole → o3 ++ (doubled q behind ++ q ∷ []) ≡ whole
-quote_step q o o1 o2 o3 whole rest part behind a b c e h w =
+pub quote_step : (q : ℕ) (o o1 o2 whole rest part behind : List ℕ) → o1 ≡ o ++ part → o2 ≡ o1 ++ q ∷ q ∷ [] → rest ≡ part ++ q ∷ behind
+    → each (λ b. not (b == q)) part ≡ true → o ++ (doubled q rest ++ q ∷ []) ≡ whole → o2 ++ (doubled q behind ++ q ∷ []) ≡ whole
+quote_step q o o1 o2 whole rest part behind a b e h w =
     let d : o ++ (doubled q rest ++ q ∷ []) ≡ o ++ ((part ++ q ∷ q ∷ doubled q behind) ++ q ∷ []) = ap (λ z. o ++ (z ++ q ∷ [])) (doubled_at q rest part behind e h) in
-    let f : o3 ≡ ((o ++ part) ++ q ∷ []) ++ q ∷ [] = c ∙ ap (λ z. z ++ q ∷ []) (b ∙ ap (λ z. z ++ q ∷ []) a) in
-    let g : (((o ++ part) ++ q ∷ []) ++ q ∷ []) ++ (doubled q behind ++ q ∷ []) ≡ o ++ ((part ++ q ∷ q ∷ doubled q behind) ++ q ∷ []) = simp append_assoc in
+    let f : o2 ≡ (o ++ part) ++ q ∷ q ∷ [] = b ∙ ap (λ z. z ++ q ∷ q ∷ []) a in
+    let g : ((o ++ part) ++ q ∷ q ∷ []) ++ (doubled q behind ++ q ∷ []) ≡ o ++ ((part ++ q ∷ q ∷ doubled q behind) ++ q ∷ []) = simp append_assoc in
     ap (λ z. z ++ (doubled q behind ++ q ∷ [])) f ∙ g ∙ sym d ∙ w
 
 pub quote_end : (q : ℕ) (o o1 o2 whole rest : List ℕ) → o1 ≡ o ++ rest → o2 ≡ o1 ++ q ∷ [] → each (λ b. not (b == q)) rest ≡ true

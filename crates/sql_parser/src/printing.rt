@@ -1,7 +1,7 @@
 //! From a statement to its one canonical spelling.
 //!
 //! Each part is written at the end of the text so far, each name in its canonical spelling. `print` is the one way in.
-ghost use Rattle.std.specs.Prelude.{◌≡◌, ◌++◌, ◌<◌, codes, OnOk, IfOk, string_bytes};
+ghost use Rattle.std.specs.Prelude.{◌≡◌, ◌++◌, codes, OnOk, IfOk, string_bytes};
 ghost use Rattle.sql_parser.specs.Grammar.{IsStatementText};
 ghost use Rattle.sql_parser.specs.Tokens as token;
 ghost use Rattle.sql_parser.specs.Canonical as spelled;
@@ -10,21 +10,19 @@ use crate::statement::{RawCond, RawItem, RawKey, RawOperand, RawPlace, RawRef, R
 use row_values::{Value, Words, push_name};
 use std::alloc::{AllocError, Global};
 
-/// Writes a text between quotes, each quote in it doubled.
-fn push_quoted(out: &mut String, quote: char, text: &str) -> Result<(), AllocError>
-    requires { quote < 128 }
-    ensures { OnOk result (string_bytes out.new ≡ string_bytes out.old ++ token.quoted quote text.now) }
+/// Writes a text between single quotes, each quote in it doubled.
+fn push_text(out: &mut String, text: &str) -> Result<(), AllocError>
+    ensures { OnOk result (string_bytes out.new ≡ string_bytes out.old ++ token.quoted 39 text.now) }
 {
-    out.push(quote)?;
+    out.push('\'')?;
     let mut rest = text;
-    'quotes: while let Some((part, after)) = rest.split_once(quote) {
+    'quotes: while let Some((part, after)) = rest.split_once('\'') {
         out.push_str(part)?;
-        out.push(quote)?;
-        out.push(quote)?;
+        out.push_str("''")?;
         rest = after;
     }
     out.push_str(rest)?;
-    out.push(quote)?;
+    out.push('\'')?;
     Ok(())
 }
 
@@ -82,7 +80,7 @@ fn push_operand(alloc: Global, out: &mut String, operand: &RawOperand) -> Result
 {
     match operand {
         RawOperand::Literal(Value::Int(number)) => out.push_str(number.to_string(alloc)?.as_str()),
-        RawOperand::Literal(Value::Text(text)) => push_quoted(out, '\'', text.as_str()),
+        RawOperand::Literal(Value::Text(text)) => push_text(out, text.as_str()),
         RawOperand::Param => out.push_str("?"),
     }
 }
