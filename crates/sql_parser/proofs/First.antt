@@ -11,10 +11,11 @@ use Rattle.std.specs.List.{prefix_len}
 use Rattle.std.specs.Str.Parse.{IsNumeral, signed_digits_value, without_leading_sign, without_leading_plus}
 use Rattle.row_values.specs.declared.values.Value.TheVariants.{Int, Text}
 use Rattle.sql_parser.specs.Statement.{is_name, is_i64}
-use Rattle.sql_parser.specs.Tokens.{is_letter, is_name_byte, is_word, is_spelled, is_any_of, doubled, quoted, without_minus, Spells, quoted_name, whole_number, quoted_text, begins_with, is_quote, is_digit_or_minus, IsFirst}
+use Rattle.sql_parser.specs.Tokens.{is_letter, is_name_byte, is_spelled, doubled, quoted, without_minus, Spells, quoted_name, whole_number, quoted_text, begins_with, is_quote, is_digit_or_minus, IsFirst}
 use Rattle.sql_parser.specs.declared.tokens.Mark.{Mark}
 use Rattle.sql_parser.specs.declared.tokens.Token.{Token}
 use Rattle.sql_parser.specs.declared.tokens.Token.TheVariants as token
+use Rattle.sql_parser.proofs.Plain.{is_word, is_any_of}
 use Rattle.sql_parser.proofs.Quotes.{quoted_once}
 use Rattle.sql_parser.proofs.Runs.{and_true, run_passes, run_stops, run_longest, run_is}
 use Rattle.sql_parser.proofs.Shapes.{nothing_spells, word_shape, number_shape, name_shape, text_shape, letter_goes_on, NumberToken, NameToken, TextToken}

@@ -16,7 +16,8 @@ use Rattle.sql_parser.specs.declared.tokens.Token.{Token}
 use Rattle.sql_parser.specs.declared.tokens.Token.TheVariants as token
 use Rattle.sql_parser.specs.Statement.{each, is_some, is_name, is_ref, is_item, is_place, is_operand, is_test, is_cond, is_key, IsSound}
 use Rattle.sql_parser.specs.Reading.{is_good}
-use Rattle.sql_parser.specs.Tokens.{is_word, Spells, plain_name, quoted_name, whole_number, quoted_text, reserved_or_sign, AreTokens, none, next}
+use Rattle.sql_parser.proofs.Plain.{is_word, plain_word}
+use Rattle.sql_parser.specs.Tokens.{Spells, plain_name, quoted_name, whole_number, quoted_text, reserved_or_sign, AreTokens, none, next}
 use Rattle.sql_parser.proofs.Runs.{both, and_true}
 use Rattle.sql_parser.proofs.Sound.{Taken}
 use Rattle.sql_parser.proofs.Whole.{IsSource, source_is, Pieces, pieces_of}
@@ -28,7 +29,7 @@ word_some [] e = absurd cc
 word_some (b ∷ bytes) e = refl
 
 spelled_good : (t : Token) (bytes rest : List ℕ) → Spells t bytes rest → is_good t ≡ true
-spelled_good t bytes rest (plain_name w r) = word_some bytes w
+spelled_good t bytes rest (plain_name p) = word_some bytes (plain_word bytes p).0
 spelled_good t bytes rest (quoted_name n s) = n
 spelled_good t bytes rest (whole_number n f s) = f
 spelled_good t bytes rest (quoted_text s) = refl

@@ -31,7 +31,7 @@ use Rattle.std.specs.Str.Parse.{without_leading_sign, IsNumeral, signed_digits_v
 use Rattle.std.specs.List.{prefix_len, starts_with}
 use Rattle.row_values.specs.declared.values.Value.TheVariants.{Int, Text}
 use Rattle.sql_parser.specs.Statement.{each, is_some, is_name, is_i64, is_ref_of, is_ref, is_item, is_place, is_operand, is_test, is_cond, is_key, IsSound}
-use Rattle.sql_parser.specs.Tokens.{is_letter, is_name_byte, is_word, mark_text, doubled, quoted, without_minus, begins_with, is_quote, is_digit_or_minus, is_other, Spells, plain_name, reserved_or_sign, IsFirst, AreTokens, none, next}
+use Rattle.sql_parser.specs.Tokens.{is_letter, is_name_byte, mark_text, doubled, quoted, without_minus, begins_with, is_quote, is_digit_or_minus, is_other, Spells, plain_name, reserved_or_sign, IsFirst, AreTokens, none, next}
 use Rattle.row_values.specs.Names.{canonical_name, quoted_name}
 use Rattle.row_values.specs.Plain.{is_plain}
 use Rattle.sql_parser.specs.Canonical.{ref_text_of, ref_text, item_text, place_text, operand_text, test_text, cond_text, key_text, behind_text, listed_text, canonical_text}
@@ -39,8 +39,9 @@ use Rattle.sql_parser.specs.declared.tokens.TheConstants.{SIGNS}
 use Rattle.sql_parser.proofs.Runs.{both, and_true, run_is}
 use Rattle.sql_parser.proofs.First.{word_first, number_first, name_first, text_first, same_sign_off, tested_fits}
 use Rattle.sql_parser.proofs.Shapes.{all_digits}
+use Rattle.sql_parser.proofs.Plain.{is_word, plain_word}
 use Rattle.sql_parser.proofs.Signs.{spells_itself, sign_first}
-use Rattle.sql_parser.proofs.Spellings.{quoted_is, plain_word}
+use Rattle.sql_parser.proofs.Spellings.{quoted_is}
 use Rattle.std.proofs.Math.Seq.{take-append_seam, drop-append_seam}
 
 -- ---- one token and the text behind it
@@ -118,7 +119,7 @@ name_at_front n rest h e =
     let P : List ℕ → Type 0 = λ z. IsFirst (token.Name n) (z ++ rest) rest in
     let step : (v : Bool) → is_plain n ≡ v → P (cond v n (quoted_name n)) =
     λ v. elim v as (λ v. is_plain n ≡ v → P (cond v n (quoted_name n))) [
-      | true ↦ λ p. (let ps = plain_word n p in word_at (token.Name n) n rest ps.0 (stop_name rest e).0 (plain_name ps.0 ps.1))
+      | true ↦ λ p. (let ps = plain_word n p in word_at (token.Name n) n rest ps.0 (stop_name rest e).0 (plain_name p))
       | false ↦ λ p. subst P (sym (quoted_is n)) (quoted_name_at n rest h (stop_name rest e).1)
     ]
     in step (is_plain n) refl

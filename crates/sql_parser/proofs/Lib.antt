@@ -6,6 +6,7 @@ pub mod Lists
 pub mod Spelled
 pub mod Spellings
 pub mod Texts
+pub mod Plain
 pub mod Quotes
 pub mod Runs
 pub mod Scanning

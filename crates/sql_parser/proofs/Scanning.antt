@@ -8,12 +8,13 @@ use Rattle.std.specs.List.{prefix_len, starts_with}
 use Rattle.std.specs.Str.Parse.{IsNumeral, signed_digits_value, without_leading_sign}
 use Rattle.row_values.specs.declared.values.Value.TheVariants.{Int, Text}
 use Rattle.sql_parser.specs.Statement.{each, is_name}
-use Rattle.sql_parser.specs.Tokens.{is_letter, is_name_byte, mark_text, is_spelled, is_reserved, doubled, plain_name, reserved_or_sign, begins_with, is_quote, is_digit_or_minus, is_other, IsFirst}
+use Rattle.sql_parser.specs.Tokens.{is_letter, is_name_byte, mark_text, is_spelled, doubled, plain_name, reserved_or_sign, begins_with, is_quote, is_digit_or_minus, is_other, IsFirst}
 use Rattle.sql_parser.specs.declared.tokens.Mark.{Mark}
 use Rattle.sql_parser.specs.declared.tokens.Mark.TheVariants as mark
 use Rattle.sql_parser.specs.declared.tokens.Token.{Token}
 use Rattle.sql_parser.specs.declared.tokens.Token.TheVariants as token
 use Rattle.sql_parser.specs.declared.tokens.TheConstants.{RESERVED, SIGNS}
+use Rattle.sql_parser.proofs.Plain.{is_reserved, word_plain}
 use Rattle.sql_parser.proofs.Quotes.{unclosed}
 use Rattle.sql_parser.proofs.Runs.{both, and_true}
 use Rattle.std.proofs.Common.{◌-◌}
@@ -85,7 +86,7 @@ name_word [] word l e f = cc
 name_word (b ∷ bs) word l e f =
     let P : List ℕ → Type 0 = λ w. IsFirst (token.Name w) (b ∷ bs) (drop (prefix_len is_name_byte (b ∷ bs)) (b ∷ bs)) in
     let Q : List ℕ → Type 0 = λ w. is_reserved w ≡ false in
-    subst P (sym e) (word_first _ b bs l (plain_name (word_is b bs l) (subst Q e (find_none word RESERVED f))))
+    subst P (sym e) (word_first _ b bs l (plain_name (word_plain (take (prefix_len is_name_byte (b ∷ bs)) (b ∷ bs)) (word_is b bs l) (subst Q e (find_none word RESERVED f)))))
 
 pub mark_word : (text word : List ℕ) (m : Mark) → begins_with is_letter text ≡ true → word ≡ take (prefix_len is_name_byte text) text
     → find (λ m. is_spelled word m) RESERVED ≡ Some m → IsFirst (token.Mark m) text (drop (prefix_len is_name_byte text) text)

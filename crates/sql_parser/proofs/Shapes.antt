@@ -9,12 +9,13 @@ use Rattle.std.specs.Str.{bytes_eq, str_to_ascii_lowercase}
 use Rattle.std.specs.Str.Parse.{AllDigits, IsNumeral, signed_digits_value}
 use Rattle.row_values.specs.declared.values.Value.TheVariants.{Int, Text}
 use Rattle.sql_parser.specs.Statement.{each, is_name, is_i64}
-use Rattle.sql_parser.specs.Tokens.{is_white, is_letter, is_name_byte, mark_text, is_spelled, is_any_of, is_reserved, doubled, without_minus, Spells, plain_name, quoted_name, whole_number, quoted_text, reserved_or_sign, begins_with, is_quote, is_digit_or_minus, is_other}
+use Rattle.sql_parser.specs.Tokens.{is_white, is_letter, is_name_byte, mark_text, is_spelled, doubled, without_minus, Spells, plain_name, quoted_name, whole_number, quoted_text, reserved_or_sign, begins_with, is_quote, is_digit_or_minus, is_other}
 use Rattle.sql_parser.specs.declared.tokens.Mark.{Mark}
 use Rattle.sql_parser.specs.declared.tokens.Mark.TheVariants as mark
 use Rattle.sql_parser.specs.declared.tokens.Token.{Token}
 use Rattle.sql_parser.specs.declared.tokens.Token.TheVariants as token
 use Rattle.sql_parser.specs.declared.tokens.TheConstants.{RESERVED}
+use Rattle.sql_parser.proofs.Plain.{is_any_of, is_reserved, plain_word}
 use Rattle.sql_parser.proofs.Runs.{both, and_true, each_weaker}
 
 -- a capital letter, and a byte of a sign
@@ -189,14 +190,15 @@ number_digits b bs h =
     in step ((b == 45)) refl h
 
 pub nothing_spells : (t : Token) (rest : List ℕ) → Spells t [] rest → ⊥
-nothing_spells t rest (plain_name w r) = cc
+nothing_spells t rest (plain_name p) = cc
 nothing_spells t rest (whole_number n f s) = absurd (omega (arith, n.0))
 nothing_spells t rest (reserved_or_sign {m} h) = mark_text_some m h
 
 pub word_shape : (t : Token) (b : ℕ) (bs rest : List ℕ) → is_letter b ≡ true → Spells t (b ∷ bs) rest → (each is_name_byte (b ∷ bs) ≡ true) × WordToken t (b ∷ bs)
-word_shape t b bs rest l (plain_name w r) =
-    let parts = both (is_letter b) (each is_name_byte bs) w in
-    (and_true (is_name_byte b) _ (letter_goes_on b l) parts.1, named r)
+word_shape t b bs rest l (plain_name p) =
+    let ws = plain_word (b ∷ bs) p in
+    let parts = both (is_letter b) (each is_name_byte bs) ws.0 in
+    (and_true (is_name_byte b) _ (letter_goes_on b l) parts.1, named ws.1)
 word_shape t b bs rest l (quoted_name n s) = cc
 word_shape t b bs rest l (whole_number n f s) = absurd (letter_no_digit b l (number_digits b bs n).0)
 word_shape t b bs rest l (quoted_text s) = cc
@@ -213,7 +215,7 @@ pub record NumberToken (t : Token) (bytes rest : List ℕ) : Type 0 where
   pub fits : is_i64 (signed_digits_value 10 bytes) ≡ true
 
 pub number_shape : (t : Token) (b : ℕ) (bs rest : List ℕ) → is_digit_or_minus b ≡ true → Spells t (b ∷ bs) rest → (each is_ascii_digit bs ≡ true) × NumberToken t (b ∷ bs) rest
-number_shape t b bs rest d (plain_name w r) = absurd (letter_no_digit b (both (is_letter b) (each is_name_byte bs) w).0 d)
+number_shape t b bs rest d (plain_name p) = absurd (letter_no_digit b (both (is_letter b) (each is_name_byte bs) (plain_word (b ∷ bs) p).0).0 d)
 number_shape t b bs rest d (quoted_name n s) = cc
 number_shape t b bs rest d (whole_number n f s) = ((number_digits b bs n).1, record { value = refl; numeral = n; fits = f; stops = s })
 number_shape t b bs rest d (quoted_text s) = cc
@@ -237,13 +239,13 @@ pub record TextToken (t : Token) (bytes rest : List ℕ) : Type 0 where
   pub content : bytes ≡ doubled 39 text ++ 39 ∷ []
 
 pub name_shape : (t : Token) (bs rest : List ℕ) → Spells t (34 ∷ bs) rest → NameToken t bs rest
-name_shape t bs rest (plain_name w r) = cc
+name_shape t bs rest (plain_name p) = cc
 name_shape t bs rest (quoted_name {bytes} n s) = record { name = bytes; token = refl; some = n; content = refl; stops = s }
 name_shape t bs rest (whole_number n f s) = let d = (number_digits 34 bs n).0 in cc
 name_shape t bs rest (reserved_or_sign {m} h) = elim (mark_shape m (34 ∷ bs) h) [ inl w ↦ (let e = w.0 in cc) | inr s ↦ (let e = s.0 in cc) ]
 
 pub text_shape : (t : Token) (bs rest : List ℕ) → Spells t (39 ∷ bs) rest → TextToken t bs rest
-text_shape t bs rest (plain_name w r) = cc
+text_shape t bs rest (plain_name p) = cc
 text_shape t bs rest (whole_number n f s) = let d = (number_digits 39 bs n).0 in cc
 text_shape t bs rest (quoted_text {bytes} s) = record { text = bytes; token = refl; content = refl; stops = s }
 text_shape t bs rest (reserved_or_sign {m} h) = elim (mark_shape m (39 ∷ bs) h) [ inl w ↦ (let e = w.0 in cc) | inr s ↦ (let e = s.0 in cc) ]
@@ -261,7 +263,7 @@ other_digit : (b : ℕ) → is_other b ≡ false → is_digit_or_minus b ≡ tru
 other_digit b h l = grind (arith, nat_tests)
 
 pub sign_shape : (t : Token) (b : ℕ) (bs rest : List ℕ) → is_other b ≡ false → Spells t (b ∷ bs) rest → SignToken t (b ∷ bs)
-sign_shape t b bs rest o (plain_name w r) = absurd (other_letter b o (both (is_letter b) (each is_name_byte bs) w).0)
+sign_shape t b bs rest o (plain_name p) = absurd (other_letter b o (both (is_letter b) (each is_name_byte bs) (plain_word (b ∷ bs) p).0).0)
 sign_shape t b bs rest o (quoted_name n s) = cc
 sign_shape t b bs rest o (whole_number n f s) = absurd (other_digit b o (number_digits b bs n).0)
 sign_shape t b bs rest o (quoted_text s) = cc

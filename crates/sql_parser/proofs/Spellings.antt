@@ -1,17 +1,12 @@
 -- What the printer writes.
-use Rattle.std.proofs.Common.{◌≡◌, ℕ, Bool, true, false, cond, not, ◌&&◌, ◌||◌, ◌==◌, List, [], ◌∷◌, ◌++◌, refl, sym, ◌∙◌, ap, eq-eqb, arith}
+use Rattle.std.proofs.Common.{◌≡◌, ℕ, Bool, true, false, cond, not, ◌==◌, List, [], ◌∷◌, ◌++◌, refl, sym, ◌∙◌, ap, eq-eqb}
 use Rattle.std.proofs.lemmas.List.{append_assoc}
-use Rattle.std.proofs.lemmas.Bool.Decides.{nat_tests}
-use Rattle.std.specs.Char.{is_ascii_alphanumeric, is_ascii_digit}
 use Rattle.std.specs.List.{flat_map}
 use Rattle.row_values.specs.Names.{quoted_name}
 use Rattle.row_values.specs.Names.{doubled as name_quote}
-use Rattle.row_values.specs.Plain.{are_name_bytes, is_plain}
-use Rattle.row_values.specs.Plain.{is_reserved as reserved_word}
 use Rattle.sql_parser.specs.Statement.{each}
-use Rattle.sql_parser.specs.Tokens.{is_letter, is_name_byte, is_word, is_reserved, doubled, quoted}
+use Rattle.sql_parser.specs.Tokens.{doubled, quoted}
 use Rattle.sql_parser.proofs.Quotes.{doubled_plain, doubled_append}
-use Rattle.sql_parser.proofs.Runs.{both, and_true}
 
 pub quote_start : (q : ℕ) (o p x : List ℕ) → p ≡ o ++ q ∷ [] → p ++ x ≡ o ++ q ∷ x
 quote_start q o p x e = ap (λ z. z ++ x) e ∙ append_assoc o (q ∷ []) x
@@ -49,30 +44,3 @@ quoted_bytes (b ∷ bs) =
 
 pub quoted_is : (name : List ℕ) → quoted_name name ≡ quoted 34 name
 quoted_is name = ap (λ z. 34 ∷ z ++ 34 ∷ []) (quoted_bytes name)
-
--- a plain name is a word that isn't reserved
-name_byte : (b : ℕ) → (is_ascii_alphanumeric b || (b == 95)) ≡ true → is_name_byte b ≡ true
-name_byte b h = grind (arith, nat_tests)
-
-first_letter : (b : ℕ) → not (is_ascii_digit b) ≡ true → (is_ascii_alphanumeric b || (b == 95)) ≡ true → is_letter b ≡ true
-first_letter b d h = grind (arith, nat_tests)
-
-name_bytes : (bs : List ℕ) → are_name_bytes bs ≡ true → each is_name_byte bs ≡ true
-name_bytes [] h = refl
-name_bytes (b ∷ bs) h = let hs = both _ (are_name_bytes bs) h in and_true (is_name_byte b) _ (name_byte b hs.0) (name_bytes bs hs.1)
-
-same_reserved : (name : List ℕ) → reserved_word name ≡ is_reserved name
-same_reserved name = refl
-
-not_true : (v : Bool) → not v ≡ true → v ≡ false
-not_true true e = absurd cc
-not_true false e = refl
-
-pub plain_word : (name : List ℕ) → is_plain name ≡ true → (is_word name ≡ true) × (is_reserved name ≡ false)
-plain_word [] h = absurd cc
-plain_word (b ∷ bs) h =
-    let hs = both (not (is_ascii_digit b) && are_name_bytes (b ∷ bs)) (not (reserved_word (b ∷ bs))) h in
-    let ps = both (not (is_ascii_digit b)) (are_name_bytes (b ∷ bs)) hs.0 in
-    let qs = both (is_ascii_alphanumeric b || (b == 95)) (are_name_bytes bs) ps.1 in
-    let r : is_reserved (b ∷ bs) ≡ false = sym (same_reserved (b ∷ bs)) ∙ not_true (reserved_word (b ∷ bs)) hs.1 in
-    (and_true (is_letter b) _ (first_letter b ps.0 qs.0) (name_bytes bs qs.1), r)

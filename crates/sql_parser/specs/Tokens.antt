@@ -1,15 +1,15 @@
 -- Tokens: how each is spelled, and which tokens a text falls into.
-use Rattle.std.specs.Prelude.{ℕ, ◌≤◌, ◌==◌, ◌≡◌, List, [], ◌∷◌, ◌++◌, length, Bool, false, ◌&&◌, ◌||◌, if◌then◌else◌, IsTrue, codes, Option, Some, None, Result, Ok, Err, drop}
+use Rattle.std.specs.Prelude.{ℕ, ◌≤◌, ◌==◌, ◌≡◌, List, [], ◌∷◌, ◌++◌, length, Bool, false, ◌||◌, if◌then◌else◌, IsTrue, codes, Option, Some, None, Result, Ok, Err, drop}
 use Rattle.std.specs.Char.{is_ascii_alphabetic, is_ascii_digit}
 use Rattle.std.specs.Str.{str_eq_ignore_ascii_case, IsCharBoundary}
 use Rattle.std.specs.Str.Parse.{IsNumeral, signed_digits_value}
+use Rattle.row_values.specs.Plain.{is_plain}
 use Rattle.row_values.specs.declared.values.Value.TheVariants.{Int, Text}
 use Rattle.sql_parser.specs.Statement.{each, is_name, is_i64}
 use Rattle.sql_parser.specs.declared.tokens.Mark.{Mark}
 use Rattle.sql_parser.specs.declared.tokens.Mark.TheVariants as mark
 use Rattle.sql_parser.specs.declared.tokens.Token.{Token}
 use Rattle.sql_parser.specs.declared.tokens.Token.TheVariants as token
-use Rattle.sql_parser.specs.declared.tokens.TheConstants.{RESERVED}
 use Rattle.sql_parser.specs.declared.faults.ParseFault.{ParseFault}
 use Rattle.sql_parser.specs.declared.faults.ParseFault.TheVariants as fault
 
@@ -22,11 +22,6 @@ is_letter byte = is_ascii_alphabetic byte || byte == 95
 
 abbrev pub is_name_byte : ℕ → Bool
 is_name_byte byte = is_letter byte || is_ascii_digit byte
-
--- a letter, then letters and digits
-abbrev pub is_word : List ℕ → Bool
-is_word [] = false
-is_word (byte ∷ bytes) = is_letter byte && each is_name_byte bytes
 
 -- the reserved words and the signs in their one canonical spelling
 abbrev pub mark_text : Mark → List ℕ
@@ -66,14 +61,6 @@ mark_text mark.Equals = codes "="
 abbrev pub is_spelled : List ℕ → Mark → Bool
 is_spelled bytes m = str_eq_ignore_ascii_case bytes (mark_text m)
 
--- whether the bytes are one of the marks
-abbrev pub is_any_of : List Mark → List ℕ → Bool
-is_any_of [] bytes = false
-is_any_of (m ∷ marks) bytes = is_spelled bytes m || is_any_of marks bytes
-
-abbrev pub is_reserved : List ℕ → Bool
-is_reserved bytes = is_any_of RESERVED bytes
-
 -- the bytes with each quote doubled
 abbrev pub doubled : ℕ → List ℕ → List ℕ
 doubled quote [] = []
@@ -104,11 +91,11 @@ is_digit_or_minus byte = is_ascii_digit byte || byte == 45
 abbrev pub is_other : ℕ → Bool
 is_other byte = is_letter byte || is_digit_or_minus byte || byte == 34 || byte == 39
 
--- how a token is spelled where the rest follows: a name plain, where it is a word that isn't reserved, or between double
--- quotes; a whole number of 64 bits by a minus or none and all the decimal digits that stand there; a text between single
--- quotes; a reserved word in any case of letters, or a sign
+-- how a token is spelled where the rest follows: a plain name as it is, any name between double quotes; a whole number of 64 bits
+-- by a minus or none and all the decimal digits that stand there; a text between single quotes; a reserved word in any case of
+-- letters, or a sign
 pub data Spells : Token → List ℕ → List ℕ → Type 0 where
-  plain_name : {bytes rest : List ℕ} → IsTrue (is_word bytes) → is_reserved bytes ≡ false → Spells (token.Name bytes) bytes rest
+  plain_name : {bytes rest : List ℕ} → IsTrue (is_plain bytes) → Spells (token.Name bytes) bytes rest
   quoted_name : {bytes rest : List ℕ} → IsTrue (is_name bytes) → begins_with (is_quote 34) rest ≡ false
       → Spells (token.Name bytes) (quoted 34 bytes) rest
   whole_number : {bytes rest : List ℕ} → IsNumeral 10 (without_minus bytes) → IsTrue (is_i64 (signed_digits_value 10 bytes))

@@ -2,7 +2,7 @@
 //!
 //! A token is the longest one that stands there, so white space is needed only where two tokens would run together.
 //! `tokens_of` is the one way in. To add a reserved word or a sign, add its `Mark`, its text here and in
-//! `specs/Tokens.antt`, and its place in `RESERVED` or `SIGNS`.
+//! `specs/Tokens.antt`, and its place in `RESERVED` or `SIGNS`; a word also among those that `row_values` quotes.
 ghost use Rattle.std.specs.Prelude.{◌≡◌, ◌<◌, List, ◌∷◌, false, find, nat_eq, drop, IfOk, IsErrOf, IsTrue};
 ghost use Rattle.std.specs.List.{prefix_len, starts_with};
 ghost use Rattle.std.specs.Char.{is_ascii_digit};
