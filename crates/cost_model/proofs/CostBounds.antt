@@ -20,7 +20,7 @@ use Rattle.cost_model.specs.Laws.{IsCost, CostsFit}
 use Rattle.cost_model.specs.declared.scale.TheConstants.{COST_SCALE}
 use Rattle.cost_model.proofs.Ceilings.{ceiling_times, ceiling_more, digits_small, digits_few}
 use Rattle.cost_model.proofs.PlaceCounts.{place_count, one_more, one_place, at_most_five}
-use Rattle.cost_model.proofs.Products.{Ones, beside, full_part, in_le, marked_one, one_of_all, part_of_all, part_widths, selected_le, selected_one, selected_powers, powers_widths, rows_widths, widths, widths_ones}
+use Rattle.cost_model.proofs.Products.{Ones, beside, full_part, in_le, marked_one, one_of_all, part_of_all, part_widths, selected_le, selected_one, selected_powers, powers_widths, rows_widths, whole_part, widths, widths_ones}
 use Rattle.cost_model.proofs.Sets.{entering_new, set_of_plan}
 use Rattle.cost_model.proofs.SoundNumbers.{AreSized, are_sized}
 
@@ -242,7 +242,7 @@ costs_fit q s vector h stats v =
       cells = λ sorted set cost cell. subst (λ n. IsCost n) cell.costs (record { low = plan_some q s vector cell.plan k cell.fits.valid; high = plan_below_limit q s vector cell.plan k cell.fits.valid });
     }
 
--- For code that multiplies a cardinality up.
+-- For code that computes cardinalities and costs part by part.
 
 pub card_below_limit : (q : Statement) (s : Statistics) (vector : List ℕ) (set : ℕ) → AreSized q s vector → card_of q s vector set < 2 ^ 124
 unfolding most
@@ -267,3 +267,25 @@ selected_few q s vector set k =
     let m = part_of_all set 0 (widths on 0 s.rows) (span_ones q s vector k) in
     let n = k.narrow in
     omega arith
+
+-- as `fixed_few`, of all rows
+pub rows_product_few : (q : Statement) (s : Statistics) (vector : List ℕ) (set : ℕ) → AreSized q s vector → product_over set 0 s.rows ≤ 2 ^ 63
+unfolding spans
+rows_product_few q s vector set k =
+    let on = selectivity_places q.preds in
+    let f : product_over set 0 s.rows ≤ product_over set 0 (widths on 0 s.rows) = in_le set 0 _ _ (part_widths on 0 s.rows s.rows (whole_part s.rows (full_part s.fixed s.rows k.part))) in
+    let m = part_of_all set 0 (widths on 0 s.rows) (span_ones q s vector k) in
+    let n = k.narrow in
+    omega arith
+
+pub step_below_limit : (q : Statement) (s : Statistics) (vector : List ℕ) (set : ℕ) (step : StepKind) → AreSized q s vector → IsValidStep q s.indexed set step → step_cost q s vector set step < 2 ^ 124
+unfolding most
+step_below_limit q s vector set step k h = let m = step_le q s vector set step k h in omega arith
+
+pub sort_below_limit : (q : Statement) (s : Statistics) (vector : List ℕ) (set : ℕ) → AreSized q s vector → sort_cost q s vector set < 2 ^ 124
+unfolding most
+sort_below_limit q s vector set k = let m = sort_le q s vector set k in omega arith
+
+pub out_below_limit : (q : Statement) (s : Statistics) (vector : List ℕ) (set : ℕ) → AreSized q s vector → s.weights.out * card_of q s vector set < 2 ^ 124
+unfolding most
+out_below_limit q s vector set k = let m = weighed s.weights.out _ most k.weights.out.high (card_most q s vector set k) in omega arith

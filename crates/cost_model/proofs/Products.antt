@@ -143,6 +143,12 @@ full_part [] (n ∷ ns) h = absurd h
 full_part (f ∷ fs) [] h = absurd h
 full_part (f ∷ fs) (n ∷ ns) h = (omega arith, full_part fs ns h.2)
 
+-- all rows are a part of the rows
+pub whole_part : (ns : List ℕ) → Ones ns → IsPart ns ns
+unfolding Ones
+whole_part [] h = tt
+whole_part (n ∷ ns) h = (h.0, omega arith, whole_part ns h.1)
+
 pow_le : (n a b : ℕ) → 1 ≤ n → a ≤ b → n ^ a ≤ n ^ b
 pow_le n a b pos h = pow-le-pow_right pos h
 

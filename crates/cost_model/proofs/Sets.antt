@@ -18,7 +18,7 @@ even_of : (n : ℕ) → (n % 2 == 1) ≡ false → n % 2 ≡ 0
 even_of n h = grind (arith, nat_tests)
 
 -- a set that gains a place stays below the number of sets
-stays_below : (set place count : ℕ) → has set place ≡ false → set < 2 ^ count → place < count → set + one place < 2 ^ count
+pub stays_below : (set place count : ℕ) → has set place ≡ false → set < 2 ^ count → place < count → set + one place < 2 ^ count
 stays_below set place count h k l =
     let even : set / 2 ^ place % 2 ≡ 0 = even_of _ h in
     let e : bit_and set (2 ^ place) ≡ 0 = and_pow set place ∙ ap (λ m. m * 2 ^ place) even ∙ omega arith in

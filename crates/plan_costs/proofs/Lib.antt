@@ -1,3 +1,5 @@
 pub mod Cards
+pub mod Digits
 pub mod Factors
 pub mod Quotients
+pub mod StepParts

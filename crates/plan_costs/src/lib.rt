@@ -3,6 +3,12 @@
 //! Each call meets an equation of the cost model. No call takes memory.
 #![tactic(auto)]
 
+mod accesses;
 mod cardinalities;
+mod sorts;
+mod steps;
 
+pub use accesses::access_unit;
 pub use cardinalities::card;
+pub use sorts::sort_cost;
+pub use steps::step_cost;

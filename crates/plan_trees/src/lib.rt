@@ -14,12 +14,12 @@ mod statistics;
 mod validity;
 
 pub use place_sets::{all_places, has_place, one_place, with_place};
-pub use plans::{Access, Plan, StepKind, Top, same};
+pub use plans::{Access, Plan, StepKind, Top, place_read, same};
 pub use printing::print_plan;
 pub use reading::{NESTING_LIMIT, PlanFault, read_plan};
 pub use selectivities::Vector;
 pub use statistics::{Indexed, Stats, Weights};
-pub use validity::{is_valid_access, is_valid_step, valid};
+pub use validity::{edge_column, is_valid_access, is_valid_step, valid};
 
 #[cfg(test)]
 mod tests;

@@ -44,7 +44,7 @@ pub enum Top {
 }
 
 /// The place that the access reads.
-pub(crate) fn place_read(access: Access) -> u8
+pub fn place_read(access: Access) -> u8
     ensures { result ≡ place_of access }
 {
     match access {

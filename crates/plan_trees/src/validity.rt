@@ -73,7 +73,7 @@ fn joins(set: u8, place: u8, edge: Edge) -> bool
 }
 
 /// The column of this place in the edge.
-fn edge_column(place: u8, edge: Edge) -> u8
+pub fn edge_column(place: u8, edge: Edge) -> u8
     ensures { result ≡ column_in place edge }
 {
     if edge.right.place == place {

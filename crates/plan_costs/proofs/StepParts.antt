@@ -1,0 +1,100 @@
+-- What sound numbers say of the parts of a step: they are there, and none is past 124 bits.
+use Rattle.std.proofs.Common.{ℕ, ◌≡◌, ◌<◌, ◌+◌, ◌*◌, ◌^◌, ◌==◌, ◌&&◌, Bool, true, false, IsTrue, List, [], length, take, slice_get, slice_index_or, Option, Some, None, IsSome, IsSomeAnd, option_and_then, if◌then◌else◌, ap, sym, ◌∙◌, refl, subst, arith, true≢false, lt_of_lt_of_le}
+use Rattle.std.specs.Option.{option_map, option_map_or}
+use Rattle.std.proofs.Math.Nat.{pow-le-pow_right}
+use Rattle.std.proofs.lemmas.Bool.Decides.{nat_tests}
+use Rattle.std.proofs.lemmas.Option.{slice_get-map, slice_get_within, slice_get-get_or}
+use Rattle.row_values.specs.Statements.{Statement, IsSoundQuery, IsColumn, IsEdge, is_parameterised, selectivity_count}
+use Rattle.row_values.specs.declared.columns.Column.{Column}
+use Rattle.row_values.specs.declared.statement.Edge.{Edge}
+use Rattle.row_values.specs.declared.statement.Place.{Place}
+use Rattle.row_values.specs.declared.statement.Pred.{Pred}
+use Rattle.plan_trees.specs.declared.plans.Access.{Access}
+use Rattle.plan_trees.specs.declared.plans.StepKind.TheVariants.{Loop, Probe, Hash}
+use Rattle.plan_trees.specs.Indexes.{has_index}
+use Rattle.plan_trees.specs.PlaceSets.{has, one}
+use Rattle.plan_trees.specs.PlanSpace.{IsValidStep, column_in, column_of, joins_to}
+use Rattle.plan_trees.specs.Statistics.{Statistics, IsSoundStats, IsSoundVector}
+use Rattle.plan_trees.specs.Trees.{place_of}
+use Rattle.cost_model.specs.Cardinalities.{card_of}
+use Rattle.cost_model.specs.Costs.{access_unit, edge_fan, look_up_cost}
+use Rattle.cost_model.specs.declared.scale.TheConstants.{COST_SCALE}
+use Rattle.cost_model.proofs.CostBounds.{step_below_limit}
+use Rattle.cost_model.proofs.Growth.{selectivity_of}
+use Rattle.cost_model.proofs.SoundNumbers.{are_sized}
+
+-- The column of a fan.
+
+-- a column that is there has a fan
+fans_wide : (fans : List (List ℕ)) (place width : ℕ) (o : Option (List ℕ)) → slice_get fans place ≡ o → option_map length o ≡ Some width → length (slice_index_or fans place []) ≡ width
+fans_wide fans place width None e h = cc
+fans_wide fans place width (Some numbers) e h =
+    let here = slice_get-get_or fans place [] (slice_get_within fans place numbers e) in
+    cc
+
+column_within : (columns : List Column) (column : ℕ) (o : Option Column) → slice_get columns column ≡ o → IsSome (option_map (λ c. c.kind) o) → column < length columns
+column_within columns column None e h = cc
+column_within columns column (Some c) e h = slice_get_within columns column c e
+
+fan_there_by : (q : Statement) (s : Statistics) (place column : ℕ) (o : Option Place) → IsSoundStats q s → slice_get q.places place ≡ o → IsSome (option_and_then (λ p. option_map (λ c. c.kind) (slice_get p.schema column)) o) → column < length (slice_index_or s.fans place [])
+fan_there_by q s place column None k e h = cc
+fan_there_by q s place column (Some p) k e h =
+    let less = column_within p.schema column (slice_get p.schema column) refl h in
+    let wide : option_map length (slice_get s.fans place) ≡ Some (length p.schema) =
+    sym (slice_get-map length s.fans place) ∙ ap (λ ns. slice_get ns place) k.fan_counts ∙ slice_get-map (λ (p : Place). length p.schema) q.places place ∙ ap (option_map (λ (p : Place). length p.schema)) e in
+    let same = fans_wide s.fans place (length p.schema) (slice_get s.fans place) refl wide in
+    omega arith
+
+fan_there : (q : Statement) (s : Statistics) (place column : ℕ) → IsSoundStats q s → IsColumn q.places (column_of place column) → column < length (slice_index_or s.fans place [])
+fan_there q s place column k h = fan_there_by q s place column (slice_get q.places place) k refl h
+
+-- the end of the edge that is on this place
+end_there_by : (b : Bool) (q : Statement) (set place : ℕ) (e : Edge) → IsEdge q.places e → IsTrue (joins_to set place e) → (e.right.place == place) ≡ b → IsColumn q.places (column_of place (if b then e.right.column else e.left.column))
+end_there_by true q set place e edge joined h =
+    let same : e.right.place ≡ place = grind (arith, nat_tests) in
+    let right : IsColumn q.places e.right = subst (λ k. IsSome k) edge.one_kind edge.there in
+    subst (λ p. IsColumn q.places (column_of p e.right.column)) same right
+end_there_by false q set place e edge joined h =
+    let left : IsTrue (e.left.place == place && has set e.right.place) = cc in
+    let same : e.left.place ≡ place = grind (arith, nat_tests) in
+    subst (λ p. IsColumn q.places (column_of p e.left.column)) same edge.there
+
+pub fan_column : (q : Statement) (s : Statistics) (set place edge : ℕ) → IsSoundQuery q → IsSoundStats q s → IsValidStep q s.indexed set (Probe place edge) → (e : Edge) → slice_get q.edges edge ≡ Some e → column_in place e < length (slice_index_or s.fans place [])
+fan_column q s set place edge h k valid e there =
+    let less = slice_get_within q.edges edge e there in
+    let found = slice_get-get_or q.edges edge e less in
+    let same : slice_index_or q.edges edge e ≡ e = cc in
+    let sound : IsEdge q.places e = subst (λ e. IsEdge q.places e) same (h.edges edge e less) in
+    let joined = subst (λ o. IsSomeAnd o (λ e. IsTrue (joins_to set place e) × IsTrue (has_index s.indexed place (column_in place e)))) there valid.2 in
+    fan_there q s place (column_in place e) k (end_there_by (e.right.place == place) q set place e sound joined.0 refl)
+
+-- The forms of steps.
+
+pub loop_fits : (q : Statement) (s : Statistics) (vector : List ℕ) (set card unit place out : ℕ) (access : Access) → IsSoundQuery q → IsSoundStats q s → IsSoundVector q s vector → IsValidStep q s.indexed set (Loop access)
+    → card ≡ card_of q s vector set → unit ≡ access_unit q s vector access → place ≡ place_of access → out ≡ s.weights.out * card_of q s vector (set + one place) → card * unit + out < 2 ^ 124
+loop_fits q s vector set card unit place out access h k v valid a b c d = rw (a, b, d, c) (step_below_limit q s vector set (Loop access) (are_sized q s vector h k v) valid)
+
+pub probe_fits : (q : Statement) (s : Statistics) (vector : List ℕ) (set card place edge look_up found out : ℕ) → IsSoundQuery q → IsSoundStats q s → IsSoundVector q s vector → IsValidStep q s.indexed set (Probe place edge)
+    → card ≡ card_of q s vector set → look_up ≡ look_up_cost s place found → found ≡ edge_fan q s place edge → out ≡ s.weights.out * card_of q s vector (set + one place) → card * look_up + out < 2 ^ 124
+probe_fits q s vector set card place edge look_up found out h k v valid a b c d = rw (a, b, d, c) (step_below_limit q s vector set (Probe place edge) (are_sized q s vector h k v) valid)
+
+pub hash_fits : (q : Statement) (s : Statistics) (vector : List ℕ) (set card other alone unit place weight out edge : ℕ) (access : Access) → IsSoundQuery q → IsSoundStats q s → IsSoundVector q s vector → IsValidStep q s.indexed set (Hash access edge)
+    → card ≡ card_of q s vector set → other ≡ card_of q s vector alone → alone ≡ one place → unit ≡ access_unit q s vector access → place ≡ place_of access → weight ≡ s.weights.hash → out ≡ s.weights.out * card_of q s vector (set + one place)
+    → COST_SCALE * unit + weight * (card + other) + out < 2 ^ 124
+hash_fits q s vector set card other alone unit place weight out edge access h k v valid a b c d e f g =
+    rw (a, b, d, f, g, c, e) (step_below_limit q s vector set (Hash access edge) (are_sized q s vector h k v) valid)
+
+-- The place that enters.
+
+pub small_set : (q : Statement) (set : ℕ) → IsSoundQuery q → set < 2 ^ length q.places → set < 32
+small_set q set h there = lt_of_lt_of_le there (pow-le-pow_right (omega arith) h.few_places)
+
+-- Selectivities.
+
+count_before_by : (preds : List Pred) (j : ℕ) (o : Option Pred) → slice_get preds j ≡ o → option_map_or is_parameterised o false ≡ true → selectivity_count (take j preds) < selectivity_count preds
+count_before_by preds j None e h = absurd (true≢false (sym h))
+count_before_by preds j (Some pred) e h = (selectivity_of preds j pred.at (ap (option_map (λ p. p.at)) e) (ap (λ o. option_map_or is_parameterised o false) e ∙ h)).counted
+
+-- before a parameterised predicate there are fewer of them than in all
+pub count_before : (preds : List Pred) (j : ℕ) → option_map_or is_parameterised (slice_get preds j) false ≡ true → selectivity_count (take j preds) < selectivity_count preds
+count_before preds j h = count_before_by preds j (slice_get preds j) refl h

@@ -1,0 +1,104 @@
+//! What a step adds to the cost of the plan below it.
+//!
+//! Each form of step is a function. All of them count what comes out of the step, by `out_cost`.
+ghost use Rattle.std.specs.Prelude.{◌≡◌, ◌<◌, ◌+◌, ◌*◌, ◌^◌, [], false, Some, length, slice_get, slice_index_or};
+ghost use Rattle.row_values.specs.Statements.{IsSoundQuery};
+ghost use Rattle.row_values.specs.declared.statement.Edge.{Edge as AnEdge};
+ghost use Rattle.plan_trees.specs.PlaceSets.{has, one};
+ghost use Rattle.plan_trees.specs.PlanSpace.{IsValidStep, column_in};
+ghost use Rattle.plan_trees.specs.Statistics.{IsSoundStats, IsSoundVector};
+ghost use Rattle.plan_trees.specs.declared.plans.StepKind.TheVariants as step;
+ghost use Rattle.cost_model.specs.Cardinalities.{card_of};
+ghost use Rattle.cost_model.specs.Costs as costs;
+
+use crate::accesses::{access_unit, look_up_cost};
+use crate::cardinalities::card;
+use cost_model::COST_SCALE;
+use plan_trees::{Access, Stats, StepKind, edge_column, one_place, place_read, with_place};
+use row_values::Query;
+
+/// The rows for each value of the place's column in the edge.
+fn edge_fan(q: &Query, stats: &Stats, place: u8, edge: u8) -> u64
+    requires place { place < length stats.now.fans }
+    requires column { (e : AnEdge) → slice_get q.now.edges edge ≡ Some e
+        → column_in place e < length (slice_index_or stats.now.fans place []) }
+    ensures { result ≡ costs.edge_fan q.now stats.now place edge }
+{
+    match q.edges().get(usize::from(edge)) {
+        Some(there) => stats.fan(place, edge_column(place, *there)),
+        None => 0,
+    }
+}
+
+/// What the rows that come out of a step cost.
+fn out_cost(q: &Query, stats: &Stats, set: u8, place: u8, s: &[u64]) -> u128
+    requires query { IsSoundQuery q.now }
+    requires sound { IsSoundStats q.now stats.now }
+    requires vector { IsSoundVector q.now stats.now s.now }
+    requires there { set < 2 ^ length q.now.places }
+    requires place { place < length q.now.places }
+    requires absent { has set place ≡ false }
+    ensures { result ≡ stats.now.weights.out * card_of q.now stats.now s.now (set + one place) }
+{
+    u128::from(stats.weights().out) * card(q, stats, with_place(set, place), s)
+}
+
+/// What a nested loop adds: a run of the access for each row so far.
+fn loop_cost(q: &Query, stats: &Stats, set: u8, access: Access, s: &[u64]) -> u128
+    requires query { IsSoundQuery q.now }
+    requires sound { IsSoundStats q.now stats.now }
+    requires vector { IsSoundVector q.now stats.now s.now }
+    requires there { set < 2 ^ length q.now.places }
+    requires valid { IsValidStep q.now stats.now.indexed set (step.Loop access) }
+    ensures { result ≡ costs.step_cost q.now stats.now s.now set (step.Loop access) }
+{
+    let runs = card(q, stats, set, s) * access_unit(q, stats, &access, s);
+    runs + out_cost(q, stats, set, place_read(access), s)
+}
+
+/// What an index nested loop adds: a look-up for each row so far.
+fn probe_cost(q: &Query, stats: &Stats, set: u8, place: u8, edge: u8, s: &[u64]) -> u128
+    requires query { IsSoundQuery q.now }
+    requires sound { IsSoundStats q.now stats.now }
+    requires vector { IsSoundVector q.now stats.now s.now }
+    requires there { set < 2 ^ length q.now.places }
+    requires valid { IsValidStep q.now stats.now.indexed set (step.Probe place edge) }
+    ensures { result ≡ costs.step_cost q.now stats.now s.now set (step.Probe place edge) }
+{
+    let look_up = look_up_cost(stats, place, edge_fan(q, stats, place, edge));
+    let look_ups = card(q, stats, set, s) * look_up;
+    look_ups + out_cost(q, stats, set, place, s)
+}
+
+/// What a hash join adds: one run of the access, and the table over both sides.
+fn hash_cost(q: &Query, stats: &Stats, set: u8, access: Access, edge: u8, s: &[u64]) -> u128
+    requires query { IsSoundQuery q.now }
+    requires sound { IsSoundStats q.now stats.now }
+    requires vector { IsSoundVector q.now stats.now s.now }
+    requires there { set < 2 ^ length q.now.places }
+    requires valid { IsValidStep q.now stats.now.indexed set (step.Hash access edge) }
+    ensures { result ≡ costs.step_cost q.now stats.now s.now set (step.Hash access edge) }
+{
+    let place = place_read(access);
+    let read = COST_SCALE * access_unit(q, stats, &access, s);
+    let both = card(q, stats, set, s) + card(q, stats, one_place(place), s);
+    let hashed = u128::from(stats.weights().hash) * both;
+    read + hashed + out_cost(q, stats, set, place, s)
+}
+
+/// What the step adds to the cost of a plan of these places, on the cost scale.
+pub fn step_cost(q: &Query, stats: &Stats, set: u8, step: &StepKind, s: &[u64]) -> u128
+    requires sound { IsSoundStats q.now stats.now }
+    requires vector { IsSoundVector q.now stats.now s.now }
+    requires there { set < 2 ^ length q.now.places }
+    requires valid { IsValidStep q.now stats.now.indexed set step.now }
+    ensures value { result ≡ costs.step_cost q.now stats.now s.now set step.now }
+{
+    // That every statement is sound, its readers pass on: so it is read here once.
+    let _ = q.places();
+    match *step {
+        StepKind::Loop(access) => loop_cost(q, stats, set, access, s),
+        StepKind::Probe(place, edge) => probe_cost(q, stats, set, place, edge, s),
+        StepKind::Hash(access, edge) => hash_cost(q, stats, set, access, edge, s),
+    }
+}
