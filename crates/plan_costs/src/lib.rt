@@ -12,3 +12,6 @@ pub use accesses::access_unit;
 pub use cardinalities::card;
 pub use sorts::sort_cost;
 pub use steps::step_cost;
+
+#[cfg(test)]
+mod tests;
