@@ -1,9 +1,13 @@
 pub mod Ceilings
+pub mod CheckBounds
 pub mod CostBounds
 pub mod Growth
+pub mod LeastExists
 pub mod LeastGrowth
 pub mod LowerBounds
 pub mod PlaceCounts
 pub mod Products
+pub mod Searches
 pub mod Sets
+pub mod SomeTop
 pub mod SoundNumbers

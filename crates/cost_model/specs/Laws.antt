@@ -1,12 +1,21 @@
 -- What the laws of costs say, for all statements, statistics and vectors.
-use Rattle.std.specs.Prelude.{ℕ, ◌≡◌, ◌<◌, ◌≤◌, ◌*◌, ◌^◌, Bool, List, length, Some}
+use Rattle.std.specs.Prelude.{ℕ, ◌≡◌, ◌<◌, ◌≤◌, ◌*◌, ◌^◌, Bool, List, length, All, Some}
 use Rattle.row_values.specs.Statements.{Statement, IsSoundQuery, selectivity_count}
 use Rattle.plan_trees.specs.PlanSpace.{IsValidPlan, IsValidTop}
 use Rattle.plan_trees.specs.Statistics.{Statistics, IsSoundStats, IsSoundVector}
 use Rattle.plan_trees.specs.Trees.{Tree, TopTree}
 use Rattle.cost_polynomials.specs.Growth.{grown_to, grown_from, shrunk_to, shrunk_from}
+use Rattle.cost_model.specs.Checks.{PassesSelectivityCheck, PassesCostCheck}
 use Rattle.cost_model.specs.Costs.{plan_cost, top_cost}
 use Rattle.cost_model.specs.LeastCost.{Table, IsLeastCost, IsTight, IsTightCell, IsFeasible, FitsTable}
+
+pub record HasLeastCost (q : Statement) (s : Statistics) (vector : List ℕ) : Type 0 where
+  pub least : ℕ
+  pub is_least : IsLeastCost q s vector least
+
+-- a sound statement has a valid top, and of all valid ones some costs least
+abbrev pub LeastCostLaw : Type 0
+LeastCostLaw = (q : Statement) (s : Statistics) (vector : List ℕ) → IsSoundQuery q → HasLeastCost q s vector
 
 -- from the anchor to the instance a cost grows by at most the growth of the selectivities, and shrinks by at most
 -- their shrinking
@@ -51,3 +60,23 @@ pub record CostsFit (q : Statement) (s : Statistics) (vector : List ℕ) : Type 
 
 abbrev pub CostRangeLaw : Type 0
 CostRangeLaw = (q : Statement) (s : Statistics) (vector : List ℕ) → IsSoundQuery q → IsSoundStats q s → IsSoundVector q s vector → CostsFit q s vector
+
+-- a valid top to be used again at the instance, and the least costs there and at the anchor
+pub record IsReuse (q : Statement) (s : Statistics) (top : TopTree) (instance anchor : List ℕ) (least_at_instance least_at_anchor : ℕ) : Type 0 where
+  pub valid : IsValidTop q s.indexed top
+  pub instance_vector : IsVectorOf q instance
+  pub anchor_vector : IsVectorOf q anchor
+  pub anchor_counts : All (λ count. 1 ≤ count) anchor
+  pub least_there : IsLeastCost q s instance least_at_instance
+  pub least_known : IsLeastCost q s anchor least_at_anchor
+
+-- where a check passes, the cost at the instance is within the ratio of the least cost there
+abbrev pub SelectivityCheckLaw : Type 0
+SelectivityCheckLaw =
+    (q : Statement) (s : Statistics) (top : TopTree) (instance anchor : List ℕ) (num den least_at_instance least_at_anchor : ℕ) → IsReuse q s top instance anchor least_at_instance least_at_anchor
+    → PassesSelectivityCheck num den (top_cost q s anchor top) least_at_anchor anchor instance → top_cost q s instance top * den ≤ num * least_at_instance
+
+abbrev pub CostCheckLaw : Type 0
+CostCheckLaw =
+    (q : Statement) (s : Statistics) (top : TopTree) (instance anchor : List ℕ) (num den least_at_instance least_at_anchor : ℕ) → IsReuse q s top instance anchor least_at_instance least_at_anchor
+    → PassesCostCheck num den (top_cost q s instance top) least_at_anchor anchor instance → top_cost q s instance top * den ≤ num * least_at_instance

@@ -1,5 +1,10 @@
 //! Laws of costs. Their promise is the clause; there is nothing to run.
-ghost use Rattle.cost_model.specs.Laws.{GrowthLaw, LeastGrowthLaw, LowerBoundLaw, TightIsFeasible, CostRangeLaw};
+ghost use Rattle.cost_model.specs.Laws.{CostCheckLaw, CostRangeLaw, GrowthLaw, LeastCostLaw, LeastGrowthLaw, LowerBoundLaw, SelectivityCheckLaw, TightIsFeasible};
+
+/// Every sound statement has a least cost, with any indexes and at every vector.
+pub fn a_least_cost_exists()
+    ensures { LeastCostLaw }
+{}
 
 /// Every valid plan's cost grows by at most the growth of the selectivities, and shrinks by at most their shrinking.
 pub fn cost_grows_within_selectivities()
@@ -24,4 +29,14 @@ pub fn tight_is_feasible()
 /// With sound statistics and a sound vector every valid plan, and every cell of a tight table, costs from 1 to below 2^124.
 pub fn costs_fit()
     ensures { CostRangeLaw }
+{}
+
+/// A kept plan that passes the selectivity check costs at most `num / den` times the least.
+pub fn selectivity_check_bounds_cost()
+    ensures { SelectivityCheckLaw }
+{}
+
+/// A kept plan that passes the cost check costs at most `num / den` times the least.
+pub fn cost_check_bounds_cost()
+    ensures { CostCheckLaw }
 {}
