@@ -180,14 +180,14 @@ first_stands (b ∷ bs) =
     choose P (is_letter b) _ _ (λ l. word_stands b bs l) (λ l. sign_stands b bs (none_of (is_letter b) (is_digit_or_minus b) (b == 34) (b == 39) l d q p)))))
 
 -- what is found is a token that stands there, and what stands there is found
-first_sound : (text : List ℕ) (found : Token × List ℕ) → first_at text ≡ Some found → IsFirst found.0 text found.1
+pub first_sound : (text : List ℕ) (found : Token × List ℕ) → first_at text ≡ Some found → IsFirst found.0 text found.1
 first_sound text found e = let P : Option (Token × List ℕ) → Type 0 = λ o. Stands text o in subst P e (first_stands text)
 
 same_first : (text : List ℕ) (o : Option (Token × List ℕ)) (t : Token) (rest : List ℕ) → Stands text o → IsFirst t text rest → o ≡ Some (t, rest)
 same_first text None t rest h first = absurd (h t rest first)
 same_first text (Some found) t rest h first = let e = first_once found.0 t text found.1 rest h first in ap (λ z. Some (z, found.1)) e.0 ∙ ap (λ z. Some (t, z)) e.1
 
-first_again : (text : List ℕ) (t : Token) (rest : List ℕ) → IsFirst t text rest → first_at text ≡ Some (t, rest)
+pub first_again : (text : List ℕ) (t : Token) (rest : List ℕ) → IsFirst t text rest → first_at text ≡ Some (t, rest)
 first_again text t rest first = same_first text (first_at text) t rest (first_stands text) first
 
 -- ---- all tokens

@@ -17,3 +17,4 @@ pub use faults::ParseFault;
 pub use parsing::parse;
 pub use printing::print;
 pub use statement::{RawCond, RawItem, RawKey, RawOperand, RawPlace, RawRef, RawTest, Select};
+pub use tokens::{Mark, Token, take_token};

@@ -1,11 +1,13 @@
 //! Tokens: what a statement's text falls into before the grammar is asked.
 //!
 //! A token is the longest one that stands there, so white space is needed only where two tokens would run together.
-//! `tokens_of` is the one way in. To add a reserved word or a sign, add its `Mark`, its text here and in
-//! `specs/Tokens.antt`, and its place in `RESERVED` or `SIGNS`; a word also among those that `row_values` quotes.
-ghost use Rattle.std.specs.Prelude.{◌≡◌, ◌<◌, List, ◌∷◌, false, find, nat_eq, drop, IfOk, IsErrOf, IsTrue};
+//! `tokens_of` reads a whole text, `take_token` the front of one. To add a reserved word or a sign, add its `Mark`,
+//! its text here and in `specs/Tokens.antt`, and its place in `RESERVED` or `SIGNS`; a word also among those that
+//! `row_values` quotes.
+ghost use Rattle.std.specs.Prelude.{◌≡◌, ◌<◌, List, ◌∷◌, false, find, nat_eq, drop, option_map, IfOk, IsErrOf, IsTrue};
 ghost use Rattle.std.specs.List.{prefix_len, starts_with};
 ghost use Rattle.std.specs.Char.{is_ascii_digit};
+ghost use Rattle.sql_parser.specs.Spelled.{first_at};
 ghost use Rattle.sql_parser.specs.Tokens as spelled;
 ghost use Rattle.sql_parser.specs.declared.tokens.Token.{Token};
 
@@ -89,7 +91,7 @@ pub const SIGNS: [Mark; 12] = [
     Mark::Equals,
 ];
 
-/// A token of a statement's text.
+/// A token of a text: a name without its quotes, a number or text, or a reserved word or sign.
 #[derive(Debug, Drop)]
 pub enum Token {
     Name(Words),
@@ -327,6 +329,18 @@ fn first_token(alloc: Global, text: &str) -> Result<(Token, usize), ParseFault>
         return word(alloc, text);
     }
     sign(text)
+}
+
+/// The token at the front of a text, and what follows it; none exactly where no token stands there. White space at the
+/// front isn't skipped.
+pub fn take_token(alloc: Global, text: &str) -> Result<Option<(Token, &str)>, AllocError>
+    ensures { IfOk result (λ found. option_map (λ f. (f.0, f.1.now)) found ≡ first_at text.now) }
+{
+    match first_token(alloc, text) {
+        Err(ParseFault::Memory) => Err(AllocError),
+        Err(ParseFault::Syntax) => Ok(None),
+        Ok((token, len)) => Ok(Some((token, &text[len..]))),
+    }
 }
 
 /// A text without the white space at its front.
