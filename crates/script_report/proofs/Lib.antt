@@ -1,3 +1,4 @@
+mod Arguments
 mod Blanks
-mod Cuts
+mod CommandWords
 mod SaidLines

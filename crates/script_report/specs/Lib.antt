@@ -1,4 +1,3 @@
-pub mod BuiltForms
 pub mod Commands
 pub mod Parts
 pub mod Replies

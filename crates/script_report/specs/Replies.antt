@@ -1,6 +1,7 @@
 -- The report: how each reply is spelled.
 use Rattle.std.specs.Prelude.{ℕ, List, [], ◌∷◌, ◌++◌, codes, length, ◌==◌, if◌then◌else◌, unwrap_or}
 use Rattle.std.specs.Fmt.{decimal}
+use Rattle.row_values.specs.Names.{canonical_name}
 use Rattle.row_values.specs.Refusals.{refusal_words}
 use Rattle.row_values.specs.declared.refusals.Refusal.{Refusal}
 use Rattle.script_report.specs.declared.replies.Execution.{Execution}
@@ -10,17 +11,25 @@ use Rattle.script_report.specs.declared.replies.Reply.TheVariants.{Loaded, Prepa
 -- `L loaded T rows R columns K`
 abbrev pub loaded_text : ℕ → List ℕ → ℕ → ℕ → List ℕ
 loaded_text line table rows columns =
-    decimal line ++ (codes " loaded " ++ (table ++ (codes " rows " ++ (decimal rows ++ (codes " columns " ++ (decimal columns ++ codes "\n"))))))
+    decimal line ++ (codes " loaded " ++ (canonical_name table ++ (codes " rows " ++ (decimal rows ++ (codes " columns " ++ (decimal columns ++ codes "\n"))))))
 
 -- `L prepared NAME tables M predicates K parameters J`
 abbrev pub prepared_text : ℕ → List ℕ → ℕ → ℕ → ℕ → List ℕ
 prepared_text line name tables predicates parameters =
-    decimal line ++ (codes " prepared " ++ (name ++ (codes " tables " ++ (decimal tables ++ (codes " predicates " ++ (decimal predicates ++ (codes " parameters " ++ (decimal parameters ++ codes "\n"))))))))
+    decimal line ++ (codes " prepared " ++ (canonical_name name ++ (codes " tables " ++ (decimal tables ++ (codes " predicates " ++ (decimal predicates ++ (codes " parameters " ++ (decimal parameters ++ codes "\n"))))))))
 
--- `L ran NAME execution E`, then the plan, its cost, and the selectivity
+-- each number behind a space
+abbrev pub numbers_text : List ℕ → List ℕ
+numbers_text [] = []
+numbers_text (number ∷ numbers) = (codes " " ++ decimal number) ++ numbers_text numbers
+
+-- `execution E`, then the plan and its cost
+abbrev pub plan_lines : Execution → List ℕ
+plan_lines e = codes " execution " ++ (decimal e.number ++ (codes "\nplan " ++ (e.spelled ++ (codes "\ncost " ++ (decimal e.cost ++ codes "\nat")))))
+
+-- `L ran NAME execution E`, then the plan, its cost, and the selectivity vector
 abbrev pub execution_text : ℕ → Execution → List ℕ
-execution_text line e =
-    decimal line ++ (codes " ran " ++ (e.name ++ (codes " execution " ++ (decimal e.number ++ (codes "\nplan " ++ (e.spelled ++ (codes "\ncost " ++ (decimal e.cost ++ (codes "\nat " ++ (decimal e.at ++ codes "\n"))))))))))
+execution_text line e = (((decimal line ++ codes " ran ") ++ canonical_name e.name) ++ plan_lines e) ++ (numbers_text e.at ++ codes "\n")
 
 -- a line for each row
 abbrev pub lines_text : List (List ℕ) → List ℕ

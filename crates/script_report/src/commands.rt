@@ -1,46 +1,76 @@
 //! What a script line says.
 //!
 //! The blanks (spaces and tabs) at both ends of a line don't count. An empty line and one that begins with `#` say
-//! nothing. Else the first part is a command word, and the parts behind it decide.
-ghost use Rattle.std.specs.Prelude.{◌≡◌, ◌∷◌, [], IfOk};
+//! nothing. Else the first part is a command word, and the parts behind it must be those of this command, with a blank
+//! at least between two of them. `read_line` is the one way in.
+ghost use Rattle.std.specs.Prelude.{◌≡◌, ◌≤◌, IfOk, IfSome};
 ghost use Rattle.script_report.specs.Commands as reading;
 
-use crate::built_form::{BuiltSelect, FormFault, read_form};
-use crate::parts::{after_part, first_part, skip_blanks};
-use row_values::{Args, Value, Words, is_plain_name, whole_number};
+use crate::parts::{after_part, first_part, name_part, skip_blanks, value_part};
+use row_values::{Args, Words, whole_number};
+use sql_parser::{ParseFault, Select, parse};
 use std::alloc::{AllocError, Global};
+
+/// The most rows of one `fetch`.
+pub const FETCH_LIMIT: u32 = 1000000;
+
+/// The greatest number of a plan: such numbers have 63 bits.
+const PLAN_NUMBER_LIMIT: u64 = 9223372036854775807;
 
 /// What a line asks for.
 #[derive(Debug, Drop)]
 pub enum Command {
     /// Make a table of a CSV file.
-    Load { table: Words, file: Words },
+    Load {
+        table: Words,
+        file: Words,
+    },
+    /// Index a column of a table.
+    Index {
+        table: Words,
+        column: Words,
+    },
     /// Keep a statement under a name.
-    Prepare { name: Words, select: BuiltSelect },
+    Prepare {
+        name: Words,
+        select: Select,
+    },
     /// Execute a statement with these arguments.
-    Run { name: Words, args: Args },
-    /// A line that begins with a command word and hasn't a form that is built.
-    NotBuilt,
+    Run {
+        name: Words,
+        args: Args,
+    },
+    /// Execute a statement and keep its rows.
+    Cursor {
+        cursor: Words,
+        name: Words,
+        args: Args,
+    },
+    /// Give the next rows of a cursor, this many at most.
+    Fetch {
+        cursor: Words,
+        rows: u32,
+    },
+    /// Give up a cursor.
+    Close {
+        cursor: Words,
+    },
+    /// Give up a kept plan of a statement.
+    Evict {
+        name: Words,
+        plan: u64,
+    },
+    /// Tell the kept plans and anchors of a statement.
+    Show {
+        name: Words,
+    },
 }
 
-/// Why a line is no command.
+/// Why a line is no command: it has none of the nine forms, or memory was short.
 #[derive(Clone, Copy, Debug, PartialEq, Eq)]
 pub enum LineFault {
-    /// The first part is no command word.
     Syntax,
     Memory,
-}
-
-/// Whether the word is one of the nine that begin a command.
-fn is_command_word(word: &str) -> bool
-    ensures { result ≡ reading.is_command_word word.now }
-{
-    match word {
-        "load" | "index" | "prepare" | "run" | "cursor" | "fetch" | "close" | "evict" | "show" => {
-            true
-        }
-        _ => false,
-    }
 }
 
 /// The text without the blanks at its end.
@@ -55,73 +85,193 @@ fn skip_end_blanks(text: &str) -> &str
     &text[..end]
 }
 
-/// The load of a table that has a plain name, from a file that has a name.
-fn load_in(alloc: Global, rest: &str) -> Result<Command, AllocError>
-    ensures { IfOk result (λ command. command ≡ reading.load_in rest.now) }
+/// The numbers and texts that the parts are; none where a part is neither.
+fn args_in(alloc: Global, parts: &str) -> Result<Option<Args>, AllocError>
+    ensures { IfOk result (λ args. args ≡ reading.args_in parts.now) }
 {
-    let table = first_part(rest);
-    let file = after_part(rest);
-    if !is_plain_name(table) {
-        return Ok(Command::NotBuilt);
+    let mut values = Vec::new(alloc);
+    let mut rest = parts;
+    while !rest.is_empty() {
+        let Some((value, next)) = value_part(alloc, rest)? else {
+            return Ok(None);
+        };
+        values.push(value)?;
+        rest = next;
     }
+    Ok(Some(Args::of(values)))
+}
+
+/// A whole number from 1 to a most as a count.
+fn counted(most: u64, number: i64) -> Option<u64>
+    ensures { result ≡ reading.counted most (Some number) }
+{
+    if number < 1 {
+        return None;
+    }
+    let count = number as u64;
+    if count <= most { Some(count) } else { None }
+}
+
+/// The count from 1 to a most that the text spells without a zero in front.
+fn count_in(most: u64, text: &str) -> Option<u64>
+    ensures value { result ≡ reading.count_in most text.now }
+    ensures bound { IfSome result (λ count. count ≤ most) }
+{
+    if text.starts_with('0') {
+        return None;
+    }
+    match whole_number(text) {
+        Some(number) => counted(most, number),
+        None => None,
+    }
+}
+
+/// A table's name, and the name of its file, which is the rest of the line.
+fn load_in(alloc: Global, parts: &str) -> Result<Option<Command>, AllocError>
+    ensures { IfOk result (λ command. command ≡ reading.load_in parts.now) }
+{
+    let Some((table, file)) = name_part(alloc, parts)? else {
+        return Ok(None);
+    };
     if file.is_empty() {
-        return Ok(Command::NotBuilt);
-    }
-    Ok(Command::Load {
-        table: Words::of(alloc, table)?,
-        file: Words::of(alloc, file)?,
-    })
-}
-
-/// The preparation of a statement under a plain name.
-fn prepare_in(alloc: Global, rest: &str) -> Result<Command, AllocError>
-    ensures { IfOk result (λ command. command ≡ reading.prepare_in rest.now) }
-{
-    let name = first_part(rest);
-    if !is_plain_name(name) {
-        return Ok(Command::NotBuilt);
-    }
-    match read_form(alloc, after_part(rest)) {
-        Err(FormFault::Memory) => Err(AllocError),
-        Err(FormFault::Other) => Ok(Command::NotBuilt),
-        Ok(select) => Ok(Command::Prepare {
-            name: Words::of(alloc, name)?,
-            select,
-        }),
-    }
-}
-
-/// The run of a statement of a plain name with one whole number.
-fn run_in(alloc: Global, rest: &str) -> Result<Command, AllocError>
-    ensures { IfOk result (λ command. command ≡ reading.run_in rest.now) }
-{
-    let name = first_part(rest);
-    if !is_plain_name(name) {
-        return Ok(Command::NotBuilt);
-    }
-    match whole_number(after_part(rest)) {
-        None => Ok(Command::NotBuilt),
-        Some(number) => Ok(Command::Run {
-            name: Words::of(alloc, name)?,
-            args: Args::of(vec![in alloc; Value::Int(number)]?),
-        }),
-    }
-}
-
-/// The command that begins with this word, if it is a command word.
-fn command_in(alloc: Global, word: &str, rest: &str) -> Result<Option<Command>, AllocError>
-    ensures { IfOk result (λ command. reading.command_in word.now rest.now ≡ reading.said command) }
-{
-    if !is_command_word(word) {
         return Ok(None);
     }
-    let command = match word {
-        "load" => load_in(alloc, rest)?,
-        "prepare" => prepare_in(alloc, rest)?,
-        "run" => run_in(alloc, rest)?,
-        _ => Command::NotBuilt,
+    Ok(Some(Command::Load {
+        table,
+        file: Words::of(alloc, file)?,
+    }))
+}
+
+/// The names of a table and of its column.
+fn index_in(alloc: Global, parts: &str) -> Result<Option<Command>, AllocError>
+    ensures { IfOk result (λ command. command ≡ reading.index_in parts.now) }
+{
+    let Some((table, rest)) = name_part(alloc, parts)? else {
+        return Ok(None);
     };
-    Ok(Some(command))
+    let Some((column, end)) = name_part(alloc, rest)? else {
+        return Ok(None);
+    };
+    if !end.is_empty() {
+        return Ok(None);
+    }
+    Ok(Some(Command::Index { table, column }))
+}
+
+/// A name, and a statement to the end of the line.
+fn prepare_in(alloc: Global, parts: &str) -> Result<Option<Command>, AllocError>
+    ensures { IfOk result (λ command. command ≡ reading.prepare_in parts.now) }
+{
+    let Some((name, statement)) = name_part(alloc, parts)? else {
+        return Ok(None);
+    };
+    match parse(alloc, statement) {
+        Err(ParseFault::Memory) => Err(AllocError),
+        Err(ParseFault::Syntax) => Ok(None),
+        Ok(select) => Ok(Some(Command::Prepare { name, select })),
+    }
+}
+
+/// The name of a statement, and its arguments.
+fn run_in(alloc: Global, parts: &str) -> Result<Option<Command>, AllocError>
+    ensures { IfOk result (λ command. command ≡ reading.run_in parts.now) }
+{
+    let Some((name, rest)) = name_part(alloc, parts)? else {
+        return Ok(None);
+    };
+    match args_in(alloc, rest)? {
+        Some(args) => Ok(Some(Command::Run { name, args })),
+        None => Ok(None),
+    }
+}
+
+/// The names of a cursor and of a statement, and its arguments.
+fn cursor_in(alloc: Global, parts: &str) -> Result<Option<Command>, AllocError>
+    ensures { IfOk result (λ command. command ≡ reading.cursor_in parts.now) }
+{
+    let Some((cursor, rest)) = name_part(alloc, parts)? else {
+        return Ok(None);
+    };
+    let Some((name, rest)) = name_part(alloc, rest)? else {
+        return Ok(None);
+    };
+    match args_in(alloc, rest)? {
+        Some(args) => Ok(Some(Command::Cursor { cursor, name, args })),
+        None => Ok(None),
+    }
+}
+
+/// The name of a cursor, and how many rows.
+fn fetch_in(alloc: Global, parts: &str) -> Result<Option<Command>, AllocError>
+    ensures { IfOk result (λ command. command ≡ reading.fetch_in parts.now) }
+{
+    let Some((cursor, rest)) = name_part(alloc, parts)? else {
+        return Ok(None);
+    };
+    match count_in(u64::from(FETCH_LIMIT), rest) {
+        Some(count) => Ok(Some(Command::Fetch {
+            cursor,
+            rows: count as u32,
+        })),
+        None => Ok(None),
+    }
+}
+
+/// The name of a cursor.
+fn close_in(alloc: Global, parts: &str) -> Result<Option<Command>, AllocError>
+    ensures { IfOk result (λ command. command ≡ reading.close_in parts.now) }
+{
+    let Some((cursor, end)) = name_part(alloc, parts)? else {
+        return Ok(None);
+    };
+    if !end.is_empty() {
+        return Ok(None);
+    }
+    Ok(Some(Command::Close { cursor }))
+}
+
+/// The name of a statement, and the number of a plan.
+fn evict_in(alloc: Global, parts: &str) -> Result<Option<Command>, AllocError>
+    ensures { IfOk result (λ command. command ≡ reading.evict_in parts.now) }
+{
+    let Some((name, rest)) = name_part(alloc, parts)? else {
+        return Ok(None);
+    };
+    match count_in(PLAN_NUMBER_LIMIT, rest) {
+        Some(plan) => Ok(Some(Command::Evict { name, plan })),
+        None => Ok(None),
+    }
+}
+
+/// The name of a statement.
+fn show_in(alloc: Global, parts: &str) -> Result<Option<Command>, AllocError>
+    ensures { IfOk result (λ command. command ≡ reading.show_in parts.now) }
+{
+    let Some((name, end)) = name_part(alloc, parts)? else {
+        return Ok(None);
+    };
+    if !end.is_empty() {
+        return Ok(None);
+    }
+    Ok(Some(Command::Show { name }))
+}
+
+/// The command that begins with this word; none where the word is no command word, or the parts aren't its own.
+fn command_in(alloc: Global, word: &str, parts: &str) -> Result<Option<Command>, AllocError>
+    ensures { IfOk result (λ command. reading.command_in word.now parts.now ≡ command) }
+{
+    match word {
+        "load" => load_in(alloc, parts),
+        "index" => index_in(alloc, parts),
+        "prepare" => prepare_in(alloc, parts),
+        "run" => run_in(alloc, parts),
+        "cursor" => cursor_in(alloc, parts),
+        "fetch" => fetch_in(alloc, parts),
+        "close" => close_in(alloc, parts),
+        "evict" => evict_in(alloc, parts),
+        "show" => show_in(alloc, parts),
+        _ => Ok(None),
+    }
 }
 
 /// What a line says whose blanks at both ends are off.
@@ -143,8 +293,8 @@ fn said_by(alloc: Global, text: &str) -> Result<Option<Command>, LineFault>
     }
 }
 
-/// What a line says: nothing where it is empty or a comment, else a command, or `Syntax` exactly where its first part
-/// is no command word.
+/// What a line says: nothing where it is empty or a comment, else its command; `Syntax` exactly where it is none of
+/// these. The line is read in time that grows in proportion to its length.
 #[tactic(auto, unfolding(crate::specs::Commands::reading_of))]
 pub fn read_line(alloc: Global, line: &str) -> Result<Option<Command>, LineFault>
     ensures ok { IfOk result (λ command. reading.reading_of line.now ≡ reading.read command) }

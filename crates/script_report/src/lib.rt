@@ -5,11 +5,9 @@
 //! To add a command, add its variant, its case of `command_in` in both places, and its reply.
 #![tactic(auto)]
 
-mod built_form;
 mod commands;
 mod parts;
 mod replies;
 
-pub use built_form::BuiltSelect;
-pub use commands::{Command, LineFault, read_line};
+pub use commands::{Command, FETCH_LIMIT, LineFault, read_line};
 pub use replies::{Execution, Lines, Reply, reply_text};

@@ -1,12 +1,14 @@
 //! Replies and their spelling in the report.
 //!
-//! A reply is one or more lines ended by LF; the first begins with the script line's number. Names are plain names, and
-//! stand as they are; numbers are in decimal.
+//! A reply is one or more lines ended by LF; the first begins with the script line's number. Names are spelled
+//! canonically, numbers in decimal.
 ghost use Rattle.std.specs.Prelude.{◌≡◌, ◌∷◌, [], ◌++◌, IfOk, OnOk, OnErr, string_bytes, length, unwrap_or};
+ghost use Rattle.row_values.specs.Names.{canonical_name};
 ghost use Rattle.row_values.specs.Refusals.{refusal_words as known_words};
 ghost use Rattle.script_report.specs.Replies as report;
 
-use row_values::{Refusal, Words, refusal_words};
+use plan_trees::Vector;
+use row_values::{Refusal, Words, push_name, refusal_words};
 use std::alloc::{AllocError, Global};
 use std::marker::Model;
 
@@ -51,15 +53,15 @@ impl Lines {
     }
 }
 
-/// One execution of a statement: its number over the whole script, the plan that ran and what it costs, and how many
-/// rows meet the parameterised predicate, at least 1.
+/// One execution of a statement: its number over the whole script, the plan that ran and what it costs, and the
+/// selectivity vector.
 #[derive(Debug, Drop)]
 pub struct Execution {
     pub name: Words,
     pub number: u64,
     pub spelled: Words,
     pub cost: u128,
-    pub at: u64,
+    pub at: Vector,
 }
 
 /// The answer to a script line.
@@ -85,18 +87,36 @@ pub enum Reply {
     Spent,
 }
 
+/// Adds the numbers, each behind a space.
+fn push_numbers(text: &mut String, numbers: &[u64]) -> Result<(), AllocError>
+    ensures { OnOk result (string_bytes text.new ≡ string_bytes text.old ++ report.numbers_text numbers.now) }
+{
+    for number in numbers {
+        write!(text, " {number}")?;
+    }
+    Ok(())
+}
+
+/// Adds the number of an execution, and the lines of its plan and its cost.
+fn push_plan(text: &mut String, execution: &Execution) -> Result<(), AllocError>
+    ensures { OnOk result (string_bytes text.new ≡ string_bytes text.old ++ report.plan_lines execution.now) }
+{
+    let number = execution.number;
+    let spelled = execution.spelled.as_str();
+    let cost = execution.cost;
+    write!(text, " execution {number}\nplan {spelled}\ncost {cost}\nat")?;
+    Ok(())
+}
+
 /// The lines of an execution, up to its rows.
 fn execution_text(alloc: Global, line: u64, execution: &Execution) -> Result<String, AllocError>
     ensures { IfOk result (λ text. string_bytes text ≡ report.execution_text line execution.now) }
 {
-    let name = execution.name.as_str();
-    let number = execution.number;
-    let spelled = execution.spelled.as_str();
-    let cost = execution.cost;
-    let at = execution.at;
-    let text = format!(in alloc;
-        "{line} ran {name} execution {number}\nplan {spelled}\ncost {cost}\nat {at}\n"
-    )?;
+    let mut text = format!(in alloc; "{line} ran ")?;
+    push_name(&mut text, execution.name.as_str())?;
+    push_plan(&mut text, execution)?;
+    push_numbers(&mut text, execution.at.as_slice())?;
+    text.push('\n')?;
     Ok(text)
 }
 
@@ -144,7 +164,9 @@ fn loaded_text(
 ) -> Result<String, AllocError>
     ensures { IfOk result (λ text. string_bytes text ≡ report.loaded_text line table.now rows columns) }
 {
-    let text = format!(in alloc; "{line} loaded {table} rows {rows} columns {columns}\n")?;
+    let mut text = format!(in alloc; "{line} loaded ")?;
+    push_name(&mut text, table)?;
+    write!(text, " rows {rows} columns {columns}\n")?;
     Ok(text)
 }
 
@@ -159,8 +181,11 @@ fn prepared_text(
 ) -> Result<String, AllocError>
     ensures { IfOk result (λ text. string_bytes text ≡ report.prepared_text line name.now tables predicates parameters) }
 {
-    let text = format!(in alloc;
-        "{line} prepared {name} tables {tables} predicates {predicates} parameters {parameters}\n"
+    let mut text = format!(in alloc; "{line} prepared ")?;
+    push_name(&mut text, name)?;
+    write!(
+        text,
+        " tables {tables} predicates {predicates} parameters {parameters}\n"
     )?;
     Ok(text)
 }
