@@ -8,6 +8,8 @@
 mod commands;
 mod parts;
 mod replies;
+#[cfg(test)]
+mod tests;
 
 pub use commands::{Command, FETCH_LIMIT, LineFault, read_line};
 pub use replies::{Execution, Lines, Reply, reply_text};

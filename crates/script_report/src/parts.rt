@@ -58,13 +58,8 @@ fn next_part(text: &str) -> Option<&str>
 {
     match text.as_bytes() {
         [] => Some(text),
-        [byte, ..] => {
-            if is_blank(*byte) {
-                Some(skip_blanks(text))
-            } else {
-                None
-            }
-        }
+        [byte, ..] if is_blank(*byte) => Some(skip_blanks(text)),
+        _ => None,
     }
 }
 
