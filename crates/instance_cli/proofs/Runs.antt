@@ -117,7 +117,7 @@ spoken_rest (x ∷ xs) ys h = spoken_rest xs ys h.1
 pub run_on : (fs : Files) (s : State) (lines : List Line) → AreSpoken lines → (replies : List Reply) × (t : State) × IsRun fs s lines replies t
 run_on fs s [] h = ([], s, refl)
 run_on fs s (line ∷ lines) h =
-    let one : CanStep s (reading_of line.text) (file_for s fs (reading_of line.text)) = goes_on s (reading_of line.text) (file_for s fs (reading_of line.text)) h.0 in
+    let one : CanStep s (reading_of line.text) (file_for fs (reading_of line.text)) = goes_on s (reading_of line.text) (file_for fs (reading_of line.text)) h.0 in
     let more = run_on fs one.1 lines h.1 in
     (one.0 ∷ more.0, more.1, (one.1, one.2, more.2))
 
@@ -164,7 +164,7 @@ if_same : (b : Bool) → (if b then true else false) ≡ b
 if_same true = refl
 if_same false = refl
 
-one_reported : (files : Option Files) (old new : Option (List ℕ)) (s t : State) (n : ℕ) (text : List ℕ) (reply : Reply) (refused : Bool) → Told files (λ told. Step s (reading_of text) (file_for s told (reading_of text)) reply t) →
+one_reported : (files : Option Files) (old new : Option (List ℕ)) (s t : State) (n : ℕ) (text : List ℕ) (reply : Reply) (refused : Bool) → Told files (λ told. Step s (reading_of text) (file_for told (reading_of text)) reply t) →
     Told old (λ bytes. new ≡ Some (bytes ++ reply_text n reply)) → refused ≡ is_refusal reply → Reported files old new s (line_at n text ∷ []) t refused
 one_reported None old new s t n text reply refused step taken r = tt
 one_reported (Some fs) None new s t n text reply refused step taken r = tt
@@ -176,7 +176,7 @@ pub reply_reported : (files : Option Files) (old new : Option (List ℕ)) (s t :
     Told old (λ bytes. new ≡ Some (bytes ++ reply_text n reply)) → refused ≡ is_refusal reply → Reported files old new s (spoken_from n (text ∷ [])) t refused
 reply_reported files old new s t n text reply refused answers taken r = rw answers.0 (one_reported files old new s t n text reply refused answers.1 taken r)
 
-one_front : (files : Option Files) (old new : Option (List ℕ)) (s t : State) (n : ℕ) (text : List ℕ) (reply : Reply) → Told files (λ told. Step s (reading_of text) (file_for s told (reading_of text)) reply t) →
+one_front : (files : Option Files) (old new : Option (List ℕ)) (s t : State) (n : ℕ) (text : List ℕ) (reply : Reply) → Told files (λ told. Step s (reading_of text) (file_for told (reading_of text)) reply t) →
     Told old (λ bytes. (count : ℕ) × (new ≡ Some (bytes ++ take count (reply_text n reply)))) → ReportedInFront files old new s (line_at n text ∷ [])
 one_front None old new s t n text reply step taken = tt
 one_front (Some fs) None new s t n text reply step taken = tt

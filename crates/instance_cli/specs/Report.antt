@@ -16,7 +16,7 @@ use Rattle.instance_cli.specs.declared.outcome.Status.TheVariants as status
 abbrev pub Answers : Option Files → State → Reading → Option Reply → State → Type 0
 Answers files before reading None after = (is_silent reading ≡ true) × (after ≡ before)
 Answers files before reading (Some answer) after =
-    (is_silent reading ≡ false) × Told files (λ told. Step before reading (file_for before told reading) answer after)
+    (is_silent reading ≡ false) × Told files (λ told. Step before reading (file_for told reading) answer after)
 
 -- the replies to these lines are a run, their texts were taken, and some reply is a refusal or none
 abbrev pub Reported : Option Files → Option (List ℕ) → Option (List ℕ) → State → List Line → State → Bool → Type 0

@@ -29,24 +29,15 @@ enum Found {
 }
 
 /// Fetches the file that a command asks for.
-fn fetch_for<F: Shelf>(
-    alloc: Global,
-    engine: &Engine,
-    command: &Command,
-    shelf: &mut F,
-    into: &mut Vec<u8>,
-) -> Found
+fn fetch_for<F: Shelf>(alloc: Global, command: &Command, shelf: &mut F, into: &mut Vec<u8>) -> Found
     ensures files { F.files shelf.new ≡ F.files shelf.old }
-    ensures file { result ≡ Found.File → Told (F.files shelf.old) (λ files. file_for engine.now files (Says command.now) ≡ Some into.new.items) }
-    ensures nothing { result ≡ Found.Nothing → Told (F.files shelf.old) (λ files. file_for engine.now files (Says command.now) ≡ None) }
+    ensures file { result ≡ Found.File → Told (F.files shelf.old) (λ files. file_for files (Says command.now) ≡ Some into.new.items) }
+    ensures nothing { result ≡ Found.Nothing → Told (F.files shelf.old) (λ files. file_for files (Says command.now) ≡ None) }
     ensures faults { F.faults shelf.old ≤ F.faults shelf.new }
     ensures cause { result ≡ Found.Failed → Rose (F.faults shelf.old) (F.faults shelf.new) }
 {
     match command {
-        Command::Load { table, file } => {
-            if engine.is_loaded(table) {
-                return Found::Nothing;
-            }
+        Command::Load { table: _, file } => {
             match shelf.fetch(alloc, file.as_str(), FILE_LIMIT, into) {
                 Fetched::Got => Found::File,
                 Fetched::Missing => Found::Nothing,
@@ -54,9 +45,7 @@ fn fetch_for<F: Shelf>(
                 Fetched::Memory => Found::Memory,
             }
         }
-        Command::Prepare { name: _, select: _ } => Found::Nothing,
-        Command::Run { name: _, args: _ } => Found::Nothing,
-        Command::NotBuilt => Found::Nothing,
+        _ => Found::Nothing,
     }
 }
 
@@ -67,16 +56,16 @@ fn answer<F: Shelf>(
     command: &Command,
     shelf: &mut F,
 ) -> Result<Reply, Status>
-    requires { engine.old.executions < 2 ^ 60 }
+    requires { engine.old.executions + engine.old.versions < 2 ^ 60 }
     ensures files { F.files shelf.new ≡ F.files shelf.old }
-    ensures counts { engine.new.executions ≤ engine.old.executions + 1 }
-    ensures ok { IfOk result (λ reply. Told (F.files shelf.old) (λ files. Step engine.old (Says command.now) (file_for engine.old files (Says command.now)) reply engine.new)) }
+    ensures counts { engine.new.executions + engine.new.versions ≤ engine.old.executions + engine.old.versions + 1 }
+    ensures ok { IfOk result (λ reply. Told (F.files shelf.old) (λ files. Step engine.old (Says command.now) (file_for files (Says command.now)) reply engine.new)) }
     ensures err { IfErr result (λ status. (status ≡ Status.ReadFault) ⊎ (status ≡ Status.Memory)) }
     ensures faults { F.faults shelf.old ≤ F.faults shelf.new }
     ensures cause { result ≡ Err Status.ReadFault → Rose (F.faults shelf.old) (F.faults shelf.new) }
 {
     let mut bytes = Vec::new(alloc);
-    let reply = match fetch_for(alloc, engine, command, shelf, &mut bytes) {
+    let reply = match fetch_for(alloc, command, shelf, &mut bytes) {
         Found::File => engine.step(alloc, command, Some(bytes.as_slice())),
         Found::Nothing => engine.step(alloc, command, None),
         Found::Failed => return Err(Status::ReadFault),
@@ -95,9 +84,9 @@ fn reply_for<F: Shelf>(
     text: &str,
     shelf: &mut F,
 ) -> Result<Option<Reply>, Status>
-    requires { engine.old.executions < 2 ^ 60 }
+    requires { engine.old.executions + engine.old.versions < 2 ^ 60 }
     ensures files { F.files shelf.new ≡ F.files shelf.old }
-    ensures counts { engine.new.executions ≤ engine.old.executions + 1 }
+    ensures counts { engine.new.executions + engine.new.versions ≤ engine.old.executions + engine.old.versions + 1 }
     ensures ok { IfOk result (λ reply. Answers (F.files shelf.old) engine.old (reading_of text.now) reply engine.new) }
     ensures err { IfErr result (λ status. (status ≡ Status.ReadFault) ⊎ (status ≡ Status.Memory)) }
     ensures faults { F.faults shelf.old ≤ F.faults shelf.new }
@@ -157,9 +146,9 @@ fn serve_line<F: Shelf, K: Sink>(
     shelf: &mut F,
     sink: &mut K,
 ) -> Result<bool, Status>
-    requires { engine.old.executions < 2 ^ 60 }
+    requires { engine.old.executions + engine.old.versions < 2 ^ 60 }
     ensures files { F.files shelf.new ≡ F.files shelf.old }
-    ensures counts { engine.new.executions ≤ engine.old.executions + 1 }
+    ensures counts { engine.new.executions + engine.new.versions ≤ engine.old.executions + engine.old.versions + 1 }
     ensures ok { IfOk result (λ refused. Reported (F.files shelf.old) (K.taken sink.old) (K.taken sink.new) engine.old (spoken_from number (text.now ∷ [])) engine.new refused) }
     ensures err { IfErr result (λ status. IsCutShort status × ReportedInFront (F.files shelf.old) (K.taken sink.old) (K.taken sink.new) engine.old (spoken_from number (text.now ∷ []))) }
     ensures faults { F.faults shelf.old ≤ F.faults shelf.new }

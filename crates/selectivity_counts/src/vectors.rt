@@ -3,19 +3,20 @@
 //! Its numbers are counts of rows of at least 1, held in place: a statement has at most eight parameterised
 //! predicates. The way in is `vector`.
 ghost use Rattle.std.specs.Prelude.{◌≡◌, ◌≤◌, ◌<◌, ◌+◌, ◌++◌, ◌∷◌, [], All, length};
-ghost use Rattle.row_values.specs.Statements.{is_parameterised, operand_parameters, test_parameters, selectivity_count};
+ghost use Rattle.row_values.specs.Statements.{is_parameterised, operand_parameters, test_parameters, selectivity_count, selectivity_count as count_of};
 ghost use Rattle.std.specs.Prelude.{◌==◌, not};
 ghost use Rattle.statement_meaning.specs.Vectors as meant;
 ghost use Rattle.statement_meaning.specs.Vectors.{vector_of};
 
 use crate::counts::count;
 use csv_tables::Table;
+use plan_trees::Vector;
 use row_values::{Operand, Pred, Query, SELECTIVITY_LIMIT, Test, Value};
 use std::marker::Model;
 
 /// At most eight counts, held in place; contracts see the list.
 #[derive(Debug, Drop)]
-pub struct Selectivities {
+struct Selectivities {
     numbers: [u64; SELECTIVITY_LIMIT],
     count: usize,
 }
@@ -51,7 +52,7 @@ impl Selectivities {
     }
 
     /// The numbers in text order.
-    pub fn as_slice(&self) -> &[u64]
+    fn as_slice(&self) -> &[u64]
         ensures { result.now ≡ self.now }
     {
         &self.numbers[..self.count]
@@ -82,6 +83,19 @@ fn has_parameter(test: &Test) -> bool
     }
 }
 
+/// How many of these predicates are parameterised: how many numbers their vector has.
+pub fn selectivity_count(preds: &[Pred]) -> usize
+    ensures { result ≡ count_of preds.now }
+{
+    let mut count = 0;
+    for pred in preds {
+        if has_parameter(&pred.test) {
+            count += 1;
+        }
+    }
+    count
+}
+
 /// Adds the selectivity of a predicate, if it is parameterised.
 fn push_selectivity(numbers: &mut Selectivities, table: &Table, pred: &Pred, args: &[Value])
     requires place { pred.now.at.place ≡ 0 }
@@ -107,10 +121,14 @@ fn place_selectivities(table: &Table, preds: &[Pred], args: &[Value]) -> Selecti
 }
 
 /// The selectivity vector of a statement of one place over its table, for these arguments. It takes no memory.
-#[tactic(auto, using(statement_meaning::proofs::OnePlace::on_one_place))]
-pub fn vector(q: &Query, table: &Table, args: &[Value]) -> Selectivities
+#[tactic(auto, using(statement_meaning::proofs::OnePlace::on_one_place, crate::proofs::Few::few_numbers))]
+pub fn vector(q: &Query, table: &Table, args: &[Value]) -> Vector
     requires { length q.now.places ≡ 1 }
     ensures { result ≡ vector_of q.now (table.now.rows ∷ []) args.now }
 {
-    place_selectivities(table, q.preds(), args)
+    let numbers = place_selectivities(table, q.preds(), args);
+    match Vector::of(numbers.as_slice()) {
+        Some(vector) => vector,
+        None => unreachable!(),
+    }
 }

@@ -1,111 +1,100 @@
-//! Executing a statement: which rows meet it, and how they are written.
+//! Executing a statement: its plan, what that costs, and the rows that it means.
 //!
-//! A result is counted before a row line is made, so a result that is too large takes no memory.
-ghost use Rattle.std.specs.Prelude.{◌≡◌, ◌<◌, ◌++◌, ◌∷◌, [], if◌then◌else◌, IfOk, OnOk, length, map, string_bytes};
-ghost use Rattle.session_model.specs.Meaning as meaning;
+//! So far a statement of one place without groups and order is executed, by a sequential scan. Its rows are counted
+//! before the first row line is made.
+ghost use Rattle.std.specs.Prelude.{◌≡◌, ◌∷◌, [], IfOk, map, true};
+ghost use Rattle.plan_trees.specs.Trees.{top_tree};
+ghost use Rattle.statement_meaning.specs.Meaning.{shown_row};
+ghost use Rattle.statement_meaning.specs.Spelling.{row_line};
+ghost use Rattle.session_model.specs.Running as running;
+ghost use Rattle.session_engine.specs.Executed.{Executed};
 
 use csv_tables::Table;
-use row_values::{Value, Words};
-use script_report::Lines;
+use plan_operators::scan;
+use plan_trees::{Access, Plan, Top, print_plan};
+use result_shape::row_text;
+use row_values::{Query, Value, Words};
+use script_report::{Execution, Lines};
+use selectivity_counts::{selectivity_count, vector};
+use session_model::{COST_SCALE, RESULT_LIMIT, SELECTIVITIES_BUILT};
 use std::alloc::{AllocError, Global};
+use std::rc::Rc;
 
-/// Whether the value is a number below the argument.
-fn is_below(argument: &i64, value: &Value) -> bool
-    ensures { result ≡ meaning.is_below_value argument.now value.now }
+/// Whether the statement is of the form that is executed so far.
+pub fn is_built(q: &Query) -> bool
+    ensures { result ≡ running.is_built q.now }
 {
-    match value {
-        Value::Int(number) => number < argument,
-        Value::Text(_) => false,
-    }
+    q.places().len() == 1
+        && q.groups().is_empty()
+        && q.order().is_empty()
+        && selectivity_count(q.preds()) <= SELECTIVITIES_BUILT
 }
 
-/// One where the value is below the argument.
-fn one_below(argument: &i64, value: &Value) -> usize
-    ensures { result ≡ (if meaning.is_below_value argument.now value.now then 1 else 0) }
+/// The one plan so far: a sequential scan of the one place.
+fn scan_plan(alloc: Global) -> Result<Top, AllocError>
+    ensures { IfOk result (λ top. top_tree top ≡ running.scan_plan) }
 {
-    if is_below(argument, value) { 1 } else { 0 }
+    Ok(Top::Rows(Rc::new(alloc, Plan::Base(Access::Seq(0)))?))
 }
 
-/// How many rows of the table meet the predicate.
-pub fn count_below(table: &Table, argument: &i64) -> usize
-    requires { 0 < length table.now.schema }
-    ensures { result ≡ length (meaning.meaning_of table.now argument.now) }
+/// The cost of the scan.
+fn scan_cost(table: &Table) -> u128
+    ensures { result ≡ running.scan_cost table.now.rows }
 {
-    let mut count = 0;
-    for row in 0..table.len() {
-        count += one_below(argument, table.cell(row, 0));
-    }
-    count
+    COST_SCALE * (table.len().max(1) as u128)
 }
 
-/// The row line of a value.
-fn row_line(alloc: Global, value: &Value) -> Result<Words, AllocError>
-    ensures { IfOk result (λ line. line ≡ meaning.value_line value.now) }
-{
-    let text = match value {
-        Value::Int(number) => number_line(alloc, *number)?,
-        Value::Text(text) => text_line(alloc, text.as_str())?,
-    };
-    Ok(Words::from_string(text))
-}
-
-/// The room of a line of a number: `row `, a sign and at most nineteen digits.
-const LINE_CAPACITY: usize = 24;
-
-fn number_line(alloc: Global, number: i64) -> Result<String, AllocError>
-    ensures { IfOk result (λ line. string_bytes line ≡ meaning.number_line number) }
-{
-    let mut line = String::with_capacity(alloc, LINE_CAPACITY)?;
-    write!(line, "row {number}")?;
-    Ok(line)
-}
-
-fn text_line(alloc: Global, text: &str) -> Result<String, AllocError>
-    ensures { IfOk result (λ line. string_bytes line ≡ meaning.text_line text.now) }
-{
-    let line = format!(in alloc; "row {text}")?;
-    Ok(line)
-}
-
-/// Adds the row line of the value where it is below the argument.
-fn push_below(
+/// What is told of the execution of this number.
+fn execution(
     alloc: Global,
-    lines: &mut Lines,
-    argument: &i64,
-    value: &Value,
-) -> Result<(), AllocError>
-    ensures { OnOk result (lines.new ≡ lines.old ++ (if meaning.is_below_value argument.now value.now then meaning.value_line value.now ∷ [] else [])) }
+    number: u64,
+    name: &Words,
+    q: &Query,
+    table: &Table,
+    args: &[Value],
+) -> Result<Execution, AllocError>
+    requires { running.is_built q.now ≡ true }
+    ensures { IfOk result (λ execution. execution ≡ running.execution_of number name.now q.now (table.now.rows ∷ []) args.now) }
 {
-    if !is_below(argument, value) {
-        return Ok(());
-    }
-    lines.push(row_line(alloc, value)?)?;
-    Ok(())
+    let plan = scan_plan(alloc)?;
+    Ok(Execution {
+        name: name.copy(alloc)?,
+        number,
+        spelled: print_plan(alloc, q, &plan)?,
+        cost: scan_cost(table),
+        at: vector(q, table, args),
+    })
 }
 
-/// The row lines of the rows of the table that meet the predicate.
-pub fn lines_below(alloc: Global, table: &Table, argument: &i64) -> Result<Lines, AllocError>
-    requires { 0 < length table.now.schema }
-    ensures { IfOk result (λ lines. lines ≡ map meaning.row_line (meaning.meaning_of table.now argument.now)) }
+/// The row lines of the rows of these numbers.
+fn row_lines(alloc: Global, q: &Query, table: &Table, rows: &[u32]) -> Result<Lines, AllocError>
+    requires { running.is_built q.now ≡ true }
+    ensures { IfOk result (λ lines. lines ≡ map (λ row. row_line (shown_row (table.now.rows ∷ []) q.now.items ((row ∷ []) ∷ []) (row ∷ []))) rows.now) }
 {
     let mut lines = Lines::new(alloc);
-    for row in 0..table.len() {
-        push_below(alloc, &mut lines, argument, table.cell(row, 0))?;
+    for row in rows {
+        lines.push(row_text(alloc, q, table, *row)?)?;
     }
     Ok(lines)
 }
 
-/// The spelling of the one plan.
-pub fn plan_text(alloc: Global, table: &Words) -> Result<Words, AllocError>
-    ensures { IfOk result (λ text. text ≡ meaning.plan_text table.now) }
+/// What an execution is and its row lines; nothing where it has too many rows.
+pub fn execute(
+    alloc: Global,
+    number: u64,
+    name: &Words,
+    q: &Query,
+    table: &Table,
+    args: &[Value],
+) -> Result<Option<(Execution, Lines)>, AllocError>
+    requires { running.is_built q.now ≡ true }
+    ensures { IfOk result (Executed number name.now q.now (table.now.rows ∷ []) args.now) }
 {
-    let text = scan_text(alloc, table.as_str())?;
-    Ok(Words::from_string(text))
-}
-
-fn scan_text(alloc: Global, table: &str) -> Result<String, AllocError>
-    ensures { IfOk result (λ text. string_bytes text ≡ meaning.plan_text table.now) }
-{
-    let text = format!(in alloc; "rows(seq({table}))")?;
-    Ok(text)
+    let rows = scan(alloc, q, table, args)?;
+    if rows.len() > RESULT_LIMIT {
+        return Ok(None);
+    }
+    let execution = execution(alloc, number, name, q, table, args)?;
+    let lines = row_lines(alloc, q, table, rows.as_slice())?;
+    Ok(Some((execution, lines)))
 }

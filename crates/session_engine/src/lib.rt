@@ -5,6 +5,7 @@
 //! nothing. The one way in is `Engine::step`.
 #![tactic(auto)]
 
+mod arguments;
 mod execution;
 mod session;
 

@@ -1,5 +1,7 @@
 pub mod Faults
-pub mod Meaning
+pub mod Loading
+pub mod Preparing
 pub mod Run
+pub mod Running
 pub mod State
 pub mod Step

@@ -33,7 +33,7 @@ spoken_lines script = spoken_from 1 (lines script)
 abbrev pub IsRun : Files → State → List Line → List Reply → State → Type 0
 IsRun files old [] [] new = new ≡ old
 IsRun files old (line ∷ lines) (reply ∷ replies) new =
-    (middle : State) × Step old (reading_of line.text) (file_for old files (reading_of line.text)) reply middle × IsRun files middle lines replies new
+    (middle : State) × Step old (reading_of line.text) (file_for files (reading_of line.text)) reply middle × IsRun files middle lines replies new
 IsRun files old [] (reply ∷ replies) new = ⊥
 IsRun files old (line ∷ lines) [] new = ⊥
 

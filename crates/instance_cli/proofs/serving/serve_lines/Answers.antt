@@ -5,7 +5,7 @@ use Rattle.instance_cli.proofs.serving.serve_lines.Goals as goal
 pub loop-i-init : goal.loop-i-init
 loop-i-init g c = record {
   same = refl;
-  executions = rw c.new-engine.ensures (omega arith);
+  counted = rw c.new-engine.ensures (omega arith);
   shelf_faults = omega arith;
   sink_faults = omega arith;
   told = reported_none _ _ _ _ c.new-engine.ensures;
@@ -14,7 +14,7 @@ loop-i-init g c = record {
 pub loop-i-preserved : goal.loop-i-preserved
 loop-i-preserved g c = record {
   same = c.serve_line.ensures.files ∙ c.loop-i.invariant.same;
-  executions = omega arith;
+  counted = omega arith;
   shelf_faults = omega arith;
   sink_faults = omega arith;
   told = lines_next _ _ _ _ _ c.args.lines.now c.loop-i.i _ _ _ _ _ _ _ (omega arith) c.loop-i.invariant.same c.loop-i.invariant.told c.in-Ok.ensures.ok c.either-refused.ensures;

@@ -1,0 +1,42 @@
+//! Why the catalog turns a call down.
+ghost use Rattle.std.specs.Prelude.{◌≡◌};
+ghost use Rattle.session_model.specs.Faults.{refusal};
+
+use row_values::{Refusal, Words};
+use std::alloc::{AllocError, AllocFailed};
+
+/// A refusal, or want of memory. Neither changes the catalog.
+#[derive(Debug, Drop)]
+pub enum StoreFault {
+    Refused(Refusal),
+    Memory,
+}
+
+/// The refusal of this number that shows this.
+pub fn refused(code: u8, shown: Words) -> StoreFault
+    ensures { result ≡ StoreFault.Refused (refusal code shown) }
+{
+    StoreFault::Refused(Refusal { code, shown })
+}
+
+impl From<AllocError> for StoreFault {
+    ghost use Rattle.std.specs.Prelude.{◌≡◌};
+    ghost use Rattle.session_store.specs.declared.faults.StoreFault.TheVariants.{Memory};
+
+    ghost from_gives = { λ _ fault. fault ≡ Memory };
+
+    fn from(_error: AllocError) -> StoreFault {
+        StoreFault::Memory
+    }
+}
+
+impl<T: Drop> From<AllocFailed<T>> for StoreFault {
+    ghost use Rattle.std.specs.Prelude.{◌≡◌};
+    ghost use Rattle.session_store.specs.declared.faults.StoreFault.TheVariants.{Memory};
+
+    ghost from_gives = { λ _ fault. fault ≡ Memory };
+
+    fn from(_error: AllocFailed<T>) -> StoreFault {
+        StoreFault::Memory
+    }
+}

@@ -1,0 +1,153 @@
+//! The catalog, and what it tells.
+ghost use Rattle.std.specs.Prelude.{◌≡◌, ◌<◌, [], length, map, slice_get, IfOk, IfSome, IfNone, All, Some, None, ℕ};
+ghost use Rattle.std.specs.Option.{option_map};
+ghost use Rattle.row_values.specs.Statements.{Statement as Bound};
+ghost use Rattle.session_model.specs.State.{catalog_of, find_statement, find_table};
+ghost use Rattle.session_store.specs.Kept.{IsLoaded, reads_table};
+
+use csv_tables::Table;
+use indexmap::IndexMap;
+use name_binder::Schemas;
+use row_values::{Place, Query, Schema, Words};
+use std::alloc::{AllocError, Global};
+use std::marker::Model;
+use std::rc::Rc;
+
+/// A table, the length of its file, and the number of this version of it.
+#[derive(Debug, Drop)]
+pub struct Held {
+    pub(crate) table: Rc<Table>,
+    pub(crate) bytes: usize,
+    pub(crate) version: u64,
+}
+
+/// The tables and statements of a session; contracts see the two lists, and the next version's number.
+#[derive(Drop)]
+pub struct Store {
+    pub(crate) tables: IndexMap<Words, Held>,
+    pub(crate) statements: IndexMap<Words, Query>,
+    pub(crate) cells: usize,
+    pub(crate) bytes: usize,
+    pub(crate) versions: u64,
+}
+
+impl Model for Store {
+    ghost use Rattle.session_store.specs.Kept.{Kept, tables_in, statements_in, IsKept};
+
+    ghost Value = { Kept };
+
+    ghost view = { λ s. record { tables = tables_in s.tables.entries; statements = statements_in s.statements.entries; versions = s.versions } };
+
+    ghost invariant = { λ s. IsKept s.tables.entries s.statements.entries s.cells s.bytes };
+}
+
+impl Schemas for Store {
+    ghost use Rattle.session_model.specs.State.{catalog_of};
+
+    ghost tables = { λ s. catalog_of s.tables };
+
+    fn schema(&self, table: &str) -> Option<&Schema> {
+        for (name, held) in self.tables.iter() {
+            if name.as_str() == table {
+                return Some(held.table.schema());
+            }
+        }
+        None
+    }
+}
+
+impl Store {
+    /// Nothing is kept yet. It takes no memory.
+    pub fn new(alloc: Global) -> Store
+        ensures tables { result.tables ≡ [] }
+        ensures statements { result.statements ≡ [] }
+        ensures versions { result.versions ≡ 0 }
+    {
+        Store {
+            tables: IndexMap::new(alloc),
+            statements: IndexMap::new(alloc),
+            cells: 0,
+            bytes: 0,
+            versions: 0,
+        }
+    }
+
+    /// How many versions of tables there were: the number of the next one.
+    pub fn versions(&self) -> u64
+        ensures { result ≡ self.now.versions }
+    {
+        self.versions
+    }
+
+    /// The number of the statement of this name, from 0; none exactly where there is none.
+    pub fn find(&self, name: &Words) -> Option<u32>
+        ensures found { IfSome result (λ number. option_map (λ s. s.statement) (slice_get self.now.statements number) ≡ find_statement self.now.statements name.now) }
+        ensures within { IfSome result (λ number. number < length self.now.statements) }
+        ensures none { IfNone result (find_statement self.now.statements name.now ≡ None) }
+    {
+        match self.statements.get_index_of(name) {
+            None => None,
+            Some(number) => Some(number as u32),
+        }
+    }
+
+    /// The statement of this number. Its tables are loaded, with the columns that it knows.
+    pub fn query(&self, statement: u32) -> &Query
+        requires { statement < length self.now.statements }
+        ensures value { option_map (λ s. s.statement) (slice_get self.now.statements statement) ≡ Some result.now }
+        ensures loaded { All (IsLoaded self.now.tables) result.now.places }
+    {
+        match self.statements.as_slice().get_index(statement as usize) {
+            Some((_, q)) => q,
+            None => unreachable!(),
+        }
+    }
+
+    /// Whether the statement of this number reads the table of this name, under whatever alias.
+    pub fn reads(&self, statement: u32, table: &Words) -> bool
+        requires { statement < length self.now.statements }
+        ensures { (q : Bound) → option_map (λ s. s.statement) (slice_get self.now.statements statement) ≡ Some q → result ≡ reads_table table.now q.places }
+    {
+        is_read(table, self.query(statement).places())
+    }
+
+    /// The present table of each of these places, in their order.
+    fn tables_of_places(
+        &self,
+        alloc: Global,
+        places: &[Place],
+    ) -> Result<Vec<Rc<Table>>, AllocError>
+        requires { All (IsLoaded self.now.tables) places.now }
+        ensures { IfOk result (λ tables. map (λ table. Some table.value) tables.items ≡ map (λ place. find_table self.now.tables place.table) places.now) }
+    {
+        let mut tables = Vec::new(alloc);
+        for place in places {
+            match self.tables.get(&place.table) {
+                Some(held) => tables.push(held.table.clone()?)?,
+                None => unreachable!(),
+            }
+        }
+        Ok(tables)
+    }
+
+    /// The present table of each place of the statement of this number, in FROM order.
+    pub fn tables_of(&self, alloc: Global, statement: u32) -> Result<Vec<Rc<Table>>, AllocError>
+        requires { statement < length self.now.statements }
+        ensures { IfOk result (λ tables. (q : Bound) → option_map (λ s. s.statement) (slice_get self.now.statements statement) ≡ Some q → map (λ table. Some table.value) tables.items ≡ map (λ place. find_table self.now.tables place.table) q.places) }
+    {
+        let tables = self.tables_of_places(alloc, self.query(statement).places())?;
+        Ok(tables)
+    }
+}
+
+/// Whether one of these places reads the table of this name.
+fn is_read(table: &Words, places: &[Place]) -> bool
+    ensures { result ≡ reads_table table.now places.now }
+{
+    for place in places {
+        if place.table == *table {
+            return true;
+        }
+    }
+    false
+}
