@@ -44,6 +44,145 @@ fn worked_examples(rt: HostRuntime) -> Result<(), Fail> {
     Ok(())
 }
 
+/// Whether the job over this script and these files ends so and writes this.
+fn reports(
+    alloc: Global,
+    files: &[(&str, &str)],
+    script: &str,
+    report: &str,
+    want: Status,
+) -> Result<bool, AllocError> {
+    let mut shelf = SureShelf::new(alloc);
+    shelf.put_file("a.scr", script.as_bytes())?;
+    for (name, text) in files {
+        shelf.put_file(name, text.as_bytes())?;
+    }
+    let mut sink = SureSink::new(alloc);
+    let words = run_words(alloc, "a.scr")?;
+    let status = scr(alloc, words.as_slice(), &mut shelf, &mut sink);
+    Ok(status == want && sink.taken() == report.as_bytes())
+}
+
+#[test]
+fn ends_of_ranges(rt: HostRuntime) -> Result<(), Fail> {
+    let files = [(
+        "n.csv",
+        "v\n5\n5\n7\n-9223372036854775808\n9223372036854775807\n",
+    )];
+    let cases = [
+        (
+            "at most",
+            "v <= ?",
+            "run q 5",
+            "parameters 1",
+            "at 3\nrow 5\nrow 5\nrow -9223372036854775808\nend 3\n",
+        ),
+        (
+            "at least",
+            "v >= ?",
+            "run q 5",
+            "parameters 1",
+            "at 4\nrow 5\nrow 5\nrow 7\nrow 9223372036854775807\nend 4\n",
+        ),
+        (
+            "below the least number",
+            "v < ?",
+            "run q -9223372036854775808",
+            "parameters 1",
+            "at 1\nend 0\n",
+        ),
+        (
+            "ends that cross",
+            "v BETWEEN ? AND ?",
+            "run q 7 5",
+            "parameters 2",
+            "at 1\nend 0\n",
+        ),
+        (
+            "both ends are taken",
+            "v BETWEEN ? AND ?",
+            "run q 5 7",
+            "parameters 2",
+            "at 3\nrow 5\nrow 5\nrow 7\nend 3\n",
+        ),
+    ];
+    for (what, test, run, parameters, rows) in cases {
+        let script =
+            format!(in rt.alloc(); "load t n.csv\nprepare q SELECT v FROM t WHERE {test}\n{run}\n")?;
+        let report = format!(in rt.alloc();
+            "1 loaded t rows 5 columns 1\n2 prepared q tables 1 predicates 1 {parameters}\n3 ran q execution 1\nplan rows(seq(t))\ncost 5497558138880\n{rows}"
+        )?;
+        assert!(rt;
+            reports(rt.alloc(), &files, script.as_str(), report.as_str(), Status::Done)?,
+            "{what}"
+        );
+    }
+    Ok(())
+}
+
+#[test]
+fn tables_and_statements(rt: HostRuntime) -> Result<(), Fail> {
+    let files = [
+        ("t.csv", "v\n1\n5\n12\n"),
+        ("bad.csv", "a,b\n1,2\n3\n"),
+        ("two.csv", "v,w\n1,2\n"),
+        ("seven.csv", "v\n7\n"),
+        ("none.csv", "a,b:int\n"),
+        (
+            "orders.csv",
+            "\"order id\",day,town\n7,6,\"Bad \"\"Ems\"\"\"\n8,4,K\u{f6}ln\n",
+        ),
+    ];
+    let cases = [
+        (
+            "refusals",
+            "load t t.csv\nload t bad.csv\nrun q 1\nprepare q SELECT w FROM t\nprepare q SELECT v FROM\nprepare q SELECT v FROM t WHERE v < ?\nrun q\nrun q 'x'\nload t gone.csv\nload t two.csv\n",
+            "1 loaded t rows 3 columns 1\n2 refused 15 not a table not csv 2\n3 refused 5 unknown statement q\n4 refused 3 unknown column w\n5 refused 1 syntax\n6 prepared q tables 1 predicates 1 parameters 1\n7 refused 9 argument count 1\n8 refused 10 argument kind 1\n9 refused 13 missing file\n10 refused 16 schema differs t\n",
+            Status::DoneRefused,
+        ),
+        (
+            "no data row",
+            "load t none.csv\nprepare q SELECT a FROM t WHERE b < ?\nrun q 10\n",
+            "1 loaded t rows 0 columns 2\n2 prepared q tables 1 predicates 1 parameters 1\n3 ran q execution 1\nplan rows(seq(t))\ncost 1099511627776\nat 1\nend 0\n",
+            Status::Done,
+        ),
+        (
+            "no parameter, twice",
+            "load t t.csv\nprepare p SELECT v FROM t\nrun p\nrun p\n",
+            "1 loaded t rows 3 columns 1\n2 prepared p tables 1 predicates 0 parameters 0\n3 ran p execution 1\nplan rows(seq(t))\ncost 3298534883328\nat\nrow 1\nrow 5\nrow 12\nend 3\n4 ran p execution 2\nplan rows(seq(t))\ncost 3298534883328\nat\nrow 1\nrow 5\nrow 12\nend 3\n",
+            Status::Done,
+        ),
+        (
+            "quoted names",
+            "load \"all orders\" orders.csv\nprepare \"by day\" select town, \"order id\" from \"all orders\" as \"o\" where day >= 5 ;\nrun \"by day\"\n",
+            "1 loaded \"all orders\" rows 2 columns 3\n2 prepared \"by day\" tables 1 predicates 1 parameters 0\n3 ran \"by day\" execution 1\nplan rows(seq(o))\ncost 2199023255552\nat\nrow \"Bad \\\"Ems\\\"\",7\nend 1\n",
+            Status::Done,
+        ),
+        (
+            "a reload under a prepared statement",
+            "load t t.csv\nprepare q SELECT v FROM t WHERE v < ?\nload t seven.csv\nrun q 10\nload t bad.csv\nrun q 10\n",
+            "1 loaded t rows 3 columns 1\n2 prepared q tables 1 predicates 1 parameters 1\n3 loaded t rows 1 columns 1\n4 ran q execution 1\nplan rows(seq(t))\ncost 1099511627776\nat 1\nrow 7\nend 1\n5 refused 15 not a table not csv 2\n6 ran q execution 2\nplan rows(seq(t))\ncost 1099511627776\nat 1\nrow 7\nend 1\n",
+            Status::DoneRefused,
+        ),
+        (
+            "what isn't built yet",
+            "load t t.csv\nprepare two SELECT a.v FROM t a, t b\nrun two\nprepare g SELECT COUNT(*) FROM t GROUP BY v\nrun g\nprepare o SELECT v FROM t ORDER BY v\nrun o\nprepare four SELECT v FROM t WHERE v < ? AND v < ? AND v < ? AND v < ?\nrun four 1 2 3\nrun four 1 2 3 4\nindex t v\nshow two\n",
+            "1 loaded t rows 3 columns 1\n2 prepared two tables 2 predicates 0 parameters 0\n3 refused 21 not built yet\n4 prepared g tables 1 predicates 0 parameters 0\n5 refused 21 not built yet\n6 prepared o tables 1 predicates 0 parameters 0\n7 refused 21 not built yet\n8 prepared four tables 1 predicates 4 parameters 4\n9 refused 9 argument count 4\n10 refused 21 not built yet\n11 refused 21 not built yet\n12 refused 21 not built yet\n",
+            Status::DoneRefused,
+        ),
+        (
+            "statements that can't be bound",
+            "load t t.csv\nprepare q SELECT v FROM u\nprepare q SELECT a.v FROM t a, t a\nprepare q SELECT v FROM t a, t b\nprepare q SELECT v FROM t WHERE v = 'x'\nprepare q SELECT SUM(v) FROM t\nprepare q SELECT v FROM t, t a, t b, t c, t d, t e\nprepare q SELECT v FROM t\nprepare q SELECT w FROM u\n",
+            "1 loaded t rows 3 columns 1\n2 refused 2 unknown table u\n3 refused 6 name taken a\n4 refused 4 ambiguous v\n5 refused 7 misfit v\n6 refused 19 not grouped SUM(v)\n7 refused 4 ambiguous v\n8 prepared q tables 1 predicates 0 parameters 0\n9 refused 6 name taken q\n",
+            Status::DoneRefused,
+        ),
+    ];
+    for (what, script, report, want) in cases {
+        assert!(rt; reports(rt.alloc(), &files, script, report, want)?, "{what}");
+    }
+    Ok(())
+}
+
 #[test]
 fn statuses(rt: HostRuntime) -> Result<(), Fail> {
     assert!(rt;

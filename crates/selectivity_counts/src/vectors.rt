@@ -89,7 +89,8 @@ pub fn selectivity_count(preds: &[Pred]) -> usize
 {
     let mut count = 0;
     for pred in preds {
-        if has_parameter(&pred.test) {
+        let test = &pred.test;
+        if has_parameter(test) {
             count += 1;
         }
     }
