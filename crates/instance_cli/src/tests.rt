@@ -107,13 +107,20 @@ fn ends_of_ranges(rt: HostRuntime) -> Result<(), Fail> {
         ),
     ];
     for (what, test, run, parameters, rows) in cases {
-        let script =
-            format!(in rt.alloc(); "load t n.csv\nprepare q SELECT v FROM t WHERE {test}\n{run}\n")?;
+        let script = format!(in rt.alloc();
+            "load t n.csv\nprepare q SELECT v FROM t WHERE {test}\n{run}\n"
+        )?;
         let report = format!(in rt.alloc();
             "1 loaded t rows 5 columns 1\n2 prepared q tables 1 predicates 1 {parameters}\n3 ran q execution 1\nplan rows(seq(t))\ncost 5497558138880\n{rows}"
         )?;
         assert!(rt;
-            reports(rt.alloc(), &files, script.as_str(), report.as_str(), Status::Done)?,
+            reports(
+                rt.alloc(),
+                &files,
+                script.as_str(),
+                report.as_str(),
+                Status::Done
+            )?,
             "{what}"
         );
     }
@@ -178,8 +185,46 @@ fn tables_and_statements(rt: HostRuntime) -> Result<(), Fail> {
         ),
     ];
     for (what, script, report, want) in cases {
-        assert!(rt; reports(rt.alloc(), &files, script, report, want)?, "{what}");
+        assert!(rt;
+            reports(rt.alloc(), &files, script, report, want)?,
+            "{what}"
+        );
     }
+    Ok(())
+}
+
+/// Whether the 65th table and the 257th statement are refused, and a table that is known is loaded again.
+fn refuses_one_more(alloc: Global) -> Result<bool, AllocError> {
+    let mut script = String::new(alloc);
+    let mut report = String::new(alloc);
+    for i in 0..64_u64 {
+        write!(script, "load t{i} t.csv\n")?;
+        write!(report, "{} loaded t{i} rows 1 columns 1\n", i + 1)?;
+    }
+    script.push_str("load t64 t.csv\nload t0 t.csv\n")?;
+    report.push_str("65 refused 20 store limit tables\n66 loaded t0 rows 1 columns 1\n")?;
+    for i in 0..256_u64 {
+        write!(script, "prepare q{i} SELECT v FROM t{}\n", i % 64)?;
+        write!(
+            report,
+            "{} prepared q{i} tables 1 predicates 0 parameters 0\n",
+            i + 67
+        )?;
+    }
+    script.push_str("prepare q256 SELECT v FROM t0\n")?;
+    report.push_str("323 refused 20 store limit statements\n")?;
+    reports(
+        alloc,
+        &[("t.csv", "v\n7\n")],
+        script.as_str(),
+        report.as_str(),
+        Status::DoneRefused,
+    )
+}
+
+#[test]
+fn limits(rt: HostRuntime) -> Result<(), Fail> {
+    assert!(rt; refuses_one_more(rt.alloc())?);
     Ok(())
 }
 
