@@ -60,11 +60,14 @@ pub fn row_text(alloc: Global, q: &Query, table: &Table, row: u32) -> Result<Wor
     requires plain { q.now.groups ≡ [] }
     ensures { IfOk result (λ text. text ≡ row_line (shown_row (table.now.rows ∷ []) q.now.items ((row ∷ []) ∷ []) (row ∷ []))) }
 {
-    let mut text = String::with_capacity(alloc, LINE_CAPACITY)?;
+    let items = q.items();
+    let mut text = String::with_capacity(alloc, LINE_ROOM + ITEM_ROOM * items.len())?;
     text.push_str("row ")?;
-    push_items(&mut text, table, row, q.items())?;
+    push_items(&mut text, table, row, items)?;
     Ok(Words::from_string(text))
 }
 
-/// The bytes that a line has room for from the start; a longer one grows.
-const LINE_CAPACITY: usize = 64;
+/// The bytes that a line has room for from the start, and what each item adds; a longer line grows. A result of many
+/// rows is held as that many texts, so room that isn't used costs time.
+const LINE_ROOM: usize = 8;
+const ITEM_ROOM: usize = 16;
