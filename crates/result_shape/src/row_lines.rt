@@ -70,4 +70,5 @@ pub fn row_text(alloc: Global, q: &Query, table: &Table, row: u32) -> Result<Wor
 /// The bytes that a line has room for from the start, and what each item adds; a longer line grows. A result of many
 /// rows is held as that many texts, so room that isn't used costs time.
 const LINE_ROOM: usize = 8;
+
 const ITEM_ROOM: usize = 16;
