@@ -20,19 +20,10 @@ use std::alloc::{AllocError, Global};
 fn script_of(bytes: &[u8]) -> &[u8]
     ensures { result.now ≡ texts.script_of bytes.now }
 {
-    if bytes.len() < 3 {
-        return bytes;
+    match bytes {
+        [0xEF, 0xBB, 0xBF, text @ ..] => text,
+        _ => bytes,
     }
-    if !(bytes[0] == 0xEF) {
-        return bytes;
-    }
-    if !(bytes[1] == 0xBB) {
-        return bytes;
-    }
-    if !(bytes[2] == 0xBF) {
-        return bytes;
-    }
-    &bytes[3..]
 }
 
 /// The lines of a text.
