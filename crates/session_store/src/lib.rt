@@ -10,6 +10,8 @@ mod faults;
 mod loading;
 mod preparing;
 mod store;
+#[cfg(test)]
+mod tests;
 
 pub use faults::StoreFault;
 pub use loading::is_same_kind;
