@@ -31,6 +31,10 @@ impl Model for Vector {
 }
 
 impl Clone for Vector {
+    ghost use Rattle.std.specs.Prelude.{◌≡◌};
+
+    ghost is_clone = { λ original copied. copied ≡ original };
+
     fn clone(&self) -> Result<Vector, AllocError> {
         Ok(*self)
     }

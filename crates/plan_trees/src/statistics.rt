@@ -36,6 +36,10 @@ impl Model for Indexed {
 }
 
 impl Clone for Indexed {
+    ghost use Rattle.std.specs.Prelude.{◌≡◌};
+
+    ghost is_clone = { λ original copied. copied ≡ original };
+
     fn clone(&self) -> Result<Indexed, AllocError> {
         Ok(*self)
     }
