@@ -3,7 +3,9 @@ use Rattle.std.specs.Prelude.{ℤ, List, [], ◌∷◌, slice_get, Bool, true, f
 use Rattle.std.specs.Ordering.{int_cmp, is_lt, is_le, is_gt, is_ge, is_eq}
 use Rattle.row_values.specs.declared.values.Value.{Value}
 use Rattle.row_values.specs.declared.values.Value.TheVariants.{Int, Text}
-use Rattle.statement_meaning.specs.Conditions.{meets}
+use Rattle.row_values.specs.declared.statement.Test.{Test}
+use Rattle.row_values.specs.declared.statement.Test.TheVariants as test
+use Rattle.statement_meaning.specs.Conditions.{meets, operand_value}
 use Rattle.row_tests.specs.declared.tests_of_values.NumberTest.{NumberTest}
 use Rattle.row_tests.specs.declared.tests_of_values.NumberTest.TheVariants.{Lt, Le, Gt, Ge, Eq, Between}
 use Rattle.row_tests.specs.declared.ready.ReadyTest.{ReadyTest}
@@ -18,6 +20,21 @@ number_holds (Gt a) number = is_gt (int_cmp number a)
 number_holds (Ge a) number = is_ge (int_cmp number a)
 number_holds (Eq a) number = is_eq (int_cmp number a)
 number_holds (Between a b) number = is_ge (int_cmp number a) && is_le (int_cmp number b)
+
+-- whether a value is there and is a whole number
+abbrev pub is_number : Option Value → Bool
+is_number None = false
+is_number (Some (Int number)) = true
+is_number (Some (Text text)) = false
+
+-- whether all operands of a test stand for whole numbers
+abbrev pub has_numbers : List Value → Test → Bool
+has_numbers args (test.Lt a) = is_number (operand_value args a)
+has_numbers args (test.Le a) = is_number (operand_value args a)
+has_numbers args (test.Gt a) = is_number (operand_value args a)
+has_numbers args (test.Ge a) = is_number (operand_value args a)
+has_numbers args (test.Eq a) = is_number (operand_value args a)
+has_numbers args (test.Between a b) = is_number (operand_value args a) && is_number (operand_value args b)
 
 -- whether a cell is a whole number that meets it
 abbrev pub is_number_in : NumberTest → Option Value → Bool

@@ -1,11 +1,11 @@
 //! Tests of a single value.
 //!
 //! `meets_test` tests any value; `number_test` makes a test against whole numbers alone, which compares them at once.
-ghost use Rattle.std.specs.Prelude.{◌≡◌, Some, IfSome, option_map};
+ghost use Rattle.std.specs.Prelude.{◌≡◌, Some, IfSome, is_some, option_map};
 ghost use Rattle.row_values.specs.declared.values.Value.{Value as AnyValue};
 ghost use Rattle.std.specs.Prelude.{Option as Maybe};
 ghost use Rattle.statement_meaning.specs.Conditions.{operand_value, order_between, meets};
-ghost use Rattle.row_tests.specs.Ready.{number_holds, is_number_in};
+ghost use Rattle.row_tests.specs.Ready.{number_holds, is_number_in, is_number, has_numbers};
 
 use row_values::{Operand, Test, Value, compare};
 use std::cmp::Ordering;
@@ -60,7 +60,8 @@ pub fn meets_test(args: &[Value], test: &Test, cell: &Value) -> bool
 
 /// The whole number that an operand stands for, if it does for one.
 fn number_of(args: &[Value], operand: &Operand) -> Option<i64>
-    ensures { IfSome result (λ number. operand_value args.now operand.now ≡ Some (AnyValue.Int number)) }
+    ensures found { is_some result ≡ is_number (operand_value args.now operand.now) }
+    ensures value { IfSome result (λ number. operand_value args.now operand.now ≡ Some (AnyValue.Int number)) }
 {
     match value_of(args, operand) {
         Some(Value::Int(number)) => Some(*number),
@@ -68,9 +69,10 @@ fn number_of(args: &[Value], operand: &Operand) -> Option<i64>
     }
 }
 
-/// The test against whole numbers that this test is, if its operands are whole numbers.
+/// The test against whole numbers that this test is; none exactly where an operand is none.
 pub fn number_test(args: &[Value], test: &Test) -> Option<NumberTest>
-    ensures { IfSome result (λ numbers. (cell : Maybe AnyValue) → is_number_in numbers cell ≡ meets args.now test.now cell) }
+    ensures found { is_some result ≡ has_numbers args.now test.now }
+    ensures value { IfSome result (λ numbers. (cell : Maybe AnyValue) → is_number_in numbers cell ≡ meets args.now test.now cell) }
 {
     match test {
         Test::Lt(a) => Some(NumberTest::Lt(number_of(args, a)?)),
