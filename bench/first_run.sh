@@ -5,6 +5,7 @@
 # both in turn: processor time (user and system) in seconds, and the ratio of the medians. `first_run.sh 9` has nine rounds.
 set -eu
 cd "$(dirname "$0")"
+. ./timing.sh
 rounds=${1:-5}
 work=$(mktemp -d)
 trap 'rm -rf "$work"' EXIT
@@ -31,12 +32,6 @@ cd "$work"
 cmp proved.txt plain.txt
 echo "the two reports agree: $(wc -c <proved.txt) bytes"
 
-# The shell's own `time`: user and system seconds of one run.
-TIMEFORMAT='%U %S'
-seconds() {
-    { time "$@" >/dev/null; } 2>&1 | awk '{ print $1 + $2 }'
-}
-
 for round in $(seq "$rounds"); do
     proved=$(seconds "$scr" run first.scr)
     # shellcheck disable=SC2086
@@ -44,9 +39,4 @@ for round in $(seq "$rounds"); do
     echo "proved $proved  plain $plain"
 done | tee rounds.txt
 
-# The median of a column: other work on the machine makes single rounds slow.
-median() {
-    awk -v column="$1" '{ print $column }' rounds.txt | sort -n | awk '{ all[NR] = $1 } END { print all[int((NR + 1) / 2)] }'
-}
-awk -v proved="$(median 2)" -v plain="$(median 4)" \
-    'BEGIN { printf "median: proved %.3f  plain %.3f  ratio %.2f\n", proved, plain, proved / plain }'
+compare_medians

@@ -6,6 +6,7 @@
 # in turn: processor time (user and system) in seconds, and the ratio of the medians. `runs.sh 9` has nine rounds.
 set -eu
 cd "$(dirname "$0")"
+. ./timing.sh
 rounds=${1:-5}
 work=$(mktemp -d)
 trap 'rm -rf "$work"' EXIT
@@ -28,15 +29,6 @@ rustc -O -o "$work/plain" runs.rs
 scr=$(readlink -f ../scr)
 cd "$work"
 
-TIMEFORMAT='%U %S'
-seconds() {
-    { time "$@" >/dev/null; } 2>&1 | awk '{ print $1 + $2 }'
-}
-
-median() {
-    awk -v column="$1" '{ print $column }' rounds.txt | sort -n | awk '{ all[NR] = $1 } END { print all[int((NR + 1) / 2)] }'
-}
-
 for size in small large; do
     "$scr" run "$size.scr" >proved.txt
     ./plain "$size.csv" "$size.scr" >plain.txt
@@ -45,6 +37,5 @@ for size in small large; do
     for round in $(seq "$rounds"); do
         echo "proved $(seconds "$scr" run "$size.scr")  plain $(seconds ./plain "$size.csv" "$size.scr")"
     done | tee rounds.txt
-    awk -v proved="$(median 2)" -v plain="$(median 4)" -v size="$size" \
-        'BEGIN { printf "%s: median: proved %.3f  plain %.3f  ratio %.2f\n", size, proved, plain, proved / plain }'
+    compare_medians
 done

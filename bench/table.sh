@@ -6,6 +6,7 @@
 # `table.sh 9` has nine rounds.
 set -eu
 cd "$(dirname "$0")"
+. ./timing.sh
 rounds=${1:-5}
 work=$(mktemp -d)
 trap 'rm -rf "$work"' EXIT
@@ -19,20 +20,11 @@ cd "$work"
 ./plain t.csv >plain.txt
 cmp proved.txt plain.txt
 
-TIMEFORMAT='%U %S'
-seconds() {
-    { time "$@" >/dev/null; } 2>&1 | awk '{ print $1 + $2 }'
-}
-
 for round in $(seq "$rounds"); do
     echo "proved $(seconds "$scr" run load.scr)  plain $(seconds ./plain t.csv)"
 done | tee rounds.txt
 
-median() {
-    awk -v column="$1" '{ print $column }' rounds.txt | sort -n | awk '{ all[NR] = $1 } END { print all[int((NR + 1) / 2)] }'
-}
-awk -v proved="$(median 2)" -v plain="$(median 4)" \
-    'BEGIN { printf "median: proved %.3f  plain %.3f  ratio %.2f\n", proved, plain, proved / plain }'
+compare_medians
 if command -v /usr/bin/time >/dev/null; then
     /usr/bin/time -f 'proved holds %M KiB' "$scr" run load.scr >/dev/null
     /usr/bin/time -f 'plain holds %M KiB' ./plain t.csv >/dev/null
