@@ -5,9 +5,9 @@
 ghost use Rattle.std.specs.Prelude.{◌≡◌, ◌≢◌, ◌≤◌, ◌<◌, ◌^◌, ◌+◌, ◌⊎◌, ◌||◌, ◌∷◌, [], ◌++◌, IfOk, IfErr, OnOk, map, length, ℕ, take, true, false};
 ghost use Rattle.outside_model.specs.Causes.{Rose};
 ghost use Rattle.outside_model.specs.Files.{Told};
-ghost use Rattle.script_report.specs.Commands.{Reading, Says, Bad, reading_of};
+ghost use Rattle.script_report.specs.Commands.{Says, reading_of};
 ghost use Rattle.script_report.specs.Replies.{reply_text};
-ghost use Rattle.session_model.specs.Run.{spoken_from, is_silent, is_refusal};
+ghost use Rattle.session_model.specs.Run.{spoken_from, is_refusal};
 ghost use Rattle.session_model.specs.State.{State, initial_state};
 ghost use Rattle.session_model.specs.Step.{Step, file_for};
 ghost use Rattle.instance_cli.specs.Report.{Answers, IsCutShort, IsOfLines, Reported, ReportedInFront};

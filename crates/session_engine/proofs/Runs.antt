@@ -1,5 +1,5 @@
 -- The ends of a run, and what the rows of a scan mean.
-use Rattle.std.proofs.Common.{ℕ, ◌≡◌, ◌≤◌, ◌<◌, ◌+◌, ◌*◌, ◌==◌, ◌&&◌, ◌∙◌, List, [], ◌∷◌, ◌++◌, length, map, nat_le, Bool, true, false, not, Option, Some, None, Result, Ok, Err, ap, sym, refl, arith, length-append, if◌then◌else◌}
+use Rattle.std.proofs.Common.{ℕ, ◌≡◌, ◌≤◌, ◌<◌, ◌+◌, ◌*◌, ◌==◌, ◌&&◌, ◌∙◌, List, [], ◌∷◌, length, map, nat_le, Bool, true, false, Option, Some, None, Ok, Err, ap, sym, refl, arith, length-append, if◌then◌else◌}
 use Rattle.std.specs.List.{slice_get}
 use Rattle.std.specs.Option.{option_map_or, unwrap_or}
 use Rattle.std.proofs.lemmas.Bool.Decides.{nat_tests}

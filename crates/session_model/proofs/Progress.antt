@@ -1,5 +1,5 @@
 -- Each line has a step: to add a command, add its case to `command_goes_on`.
-use Rattle.std.proofs.Common.{ℕ, ◌≡◌, ◌+◌, ◌++◌, List, [], ◌∷◌, length, map, false, Option, Some, None, MatchOption, Result, Ok, Err, MatchResult, refl}
+use Rattle.std.proofs.Common.{ℕ, ◌≡◌, ◌+◌, ◌++◌, List, [], ◌∷◌, length, map, false, Option, Some, None, Result, Ok, Err, MatchResult, refl}
 use Rattle.row_values.specs.Statements.{Statement, kinds_of}
 use Rattle.row_values.specs.declared.refusals.Refusal.{Refusal}
 use Rattle.row_values.specs.declared.refusals.TheConstants.{SYNTAX, MISSING_FILE, NOT_BUILT}

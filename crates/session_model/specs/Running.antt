@@ -1,5 +1,5 @@
 -- A run: the statement that is executed, or the first refusal; and what an execution shows.
-use Rattle.std.specs.Prelude.{ℕ, ◌+◌, ◌*◌, ◌==◌, ◌&&◌, max, nat_le, nat_lt, List, [], ◌∷◌, length, Bool, not, Option, Some, None, Result, Ok, Err, if◌then◌else◌}
+use Rattle.std.specs.Prelude.{ℕ, ◌+◌, ◌*◌, ◌==◌, ◌&&◌, max, nat_le, List, [], ◌∷◌, length, Bool, Option, Some, None, Result, Ok, Err, if◌then◌else◌}
 use Rattle.std.specs.Fmt.{decimal}
 use Rattle.row_values.specs.Names.{canonical_name}
 use Rattle.row_values.specs.Statements.{Statement, kinds_of, selectivity_count}

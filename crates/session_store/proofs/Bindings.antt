@@ -1,5 +1,5 @@
 -- The places of a bound statement are loaded.
-use Rattle.std.proofs.Common.{ℕ, ◌≡◌, ◌∙◌, List, [], ◌∷◌, map, Option, Some, None, ap, sym, refl, cond, Bool, true, false, All, Result, Ok, Err, subst}
+use Rattle.std.proofs.Common.{ℕ, ◌≡◌, ◌∙◌, List, [], ◌∷◌, Option, Some, None, sym, refl, cond, Bool, true, false, All, Ok, subst}
 use Rattle.std.specs.Option.{option_map, unwrap_or, is_none}
 use Rattle.std.specs.Bool.{one_answer}
 use Rattle.std.specs.Str.{bytes_eq}
@@ -7,12 +7,11 @@ use Rattle.std.proofs.lemmas.Slice.Eq.{bytes_eq-Decides}
 use Rattle.std.proofs.lemmas.List.Elements.{All-nil, All-cons}
 use Rattle.row_values.specs.Statements.{Statement}
 use Rattle.row_values.specs.declared.columns.Column.{Column}
-use Rattle.row_values.specs.declared.statement.Place.{Place}
 use Rattle.sql_parser.specs.Statement.{Parts}
 use Rattle.sql_parser.specs.declared.statement.RawPlace.{RawPlace}
 use Rattle.csv_tables.specs.Tables.{TableValue}
 use Rattle.name_binder.specs.Binding.{binding_of, first_refusal, first_of, table_refusal, unless_refused, bound_statement}
-use Rattle.name_binder.specs.Catalog.{Known, schema_named}
+use Rattle.name_binder.specs.Catalog.{schema_named}
 use Rattle.name_binder.specs.References.{place_of, places_of}
 use Rattle.name_binder.specs.Refusals.{first_unknown_table}
 use Rattle.name_binder.specs.declared.faults.BindFault.{BindFault}

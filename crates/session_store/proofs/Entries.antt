@@ -1,17 +1,17 @@
 -- The entries of the two maps, as lists of tables and of statements.
 use Rattle.std.proofs.Common.{is_some, ◌+◌, take, slice_index_or, ℕ, ◌≡◌, ◌∙◌, List, [], ◌∷◌, ◌++◌, length, map, Option, Some, None, ap, suc, zero, sym, refl, cond, Bool, true, false, All, ◌<◌, subst}
-use Rattle.std.specs.List.{slice_get, position}
+use Rattle.std.specs.List.{slice_get}
 use Rattle.std.specs.Option.{option_map}
 use Rattle.std.proofs.lemmas.List.{take_more, map-append}
-use Rattle.std.specs.Map.{lookup, keys_of}
+use Rattle.std.specs.Map.{lookup}
 use Rattle.std.specs.Str.{bytes_eq}
 use Rattle.std.proofs.lemmas.List.Elements.{All-head, All-tail}
 use Rattle.indexmap.specs.IndexMap.{insert_entry}
 use Rattle.row_values.specs.Statements.{Statement}
 use Rattle.row_values.specs.declared.statement.Place.{Place}
 use Rattle.csv_tables.specs.Tables.{TableValue}
-use Rattle.session_model.specs.State.{TableState, StatementState, find_table, find_statement}
-use Rattle.session_store.specs.Kept.{tables_in, statements_in, IsLoaded}
+use Rattle.session_model.specs.State.{StatementState, find_table, find_statement}
+use Rattle.session_store.specs.Kept.{tables_in, statements_in}
 use Rattle.session_store.specs.declared.store.Held.{Held}
 
 pub length-tables_in : (es : List (List ℕ × Held)) → length (tables_in es) ≡ length es

@@ -1,22 +1,19 @@
 -- The ends of a preparation.
-use Rattle.std.proofs.Common.{ℕ, ◌≡◌, ◌≤◌, ◌<◌, ◌∙◌, List, [], ◌∷◌, ◌++◌, length, nat_lt, codes, is_some, Bool, true, false, All, None, Ok, Err, Result, ap, sym, refl, arith, subst, length-append}
+use Rattle.std.proofs.Common.{ℕ, ◌≡◌, ◌≤◌, ◌<◌, ◌∙◌, List, [], ◌∷◌, ◌++◌, length, nat_lt, codes, is_some, true, false, All, Ok, Err, ap, sym, refl, arith, subst, length-append}
 use Rattle.std.proofs.lemmas.Bool.Decides.{nat_tests}
 use Rattle.std.proofs.lemmas.List.Elements.{All-push}
 use Rattle.row_values.specs.Names.{canonical_name}
 use Rattle.row_values.specs.Statements.{Statement}
-use Rattle.row_values.specs.declared.refusals.Refusal.{Refusal}
 use Rattle.sql_parser.specs.Statement.{Parts}
 use Rattle.name_binder.specs.Binding.{binding_of}
-use Rattle.name_binder.specs.declared.faults.BindFault.{BindFault}
-use Rattle.session_model.specs.Faults.{refusal, bind_refusal}
+use Rattle.session_model.specs.Faults.{refusal}
 use Rattle.session_model.specs.Preparing.{preparing_of, bound}
 use Rattle.session_model.specs.State.{TableState, StatementState, find_statement, catalog_of}
-use Rattle.session_store.specs.Kept.{tables_in, statements_in, IsKept, IsLoaded}
+use Rattle.session_store.specs.Kept.{tables_in, IsKept, IsLoaded}
 use Rattle.session_store.specs.Outcomes.{Binds, Says}
 use Rattle.session_store.specs.declared.faults.StoreFault.{StoreFault}
 use Rattle.session_store.specs.declared.faults.StoreFault.TheVariants.{Refused, Memory}
 use Rattle.session_store.specs.declared.store.Held.{Held}
-use Rattle.session_store.proofs.Entries.{entry_last}
 
 pub taken : (ts : List TableState) (ss : List StatementState) (name : List ℕ) (select : Parts) (shown : List ℕ) → is_some (find_statement ss name) ≡ true → shown ≡ canonical_name name → preparing_of ts ss name select ≡ Err (refusal 6 shown)
 unfolding preparing_of

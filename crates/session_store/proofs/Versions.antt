@@ -1,5 +1,5 @@
 -- A table in the place of the one of its name, or behind the others: what the tables hold, and what stays.
-use Rattle.std.proofs.Common.{◌<◌, ℕ, ◌≡◌, ◌≢◌, ◌≤◌, ◌∙◌, ◌+◌, ◌&&◌, ◌||◌, not, List, [], ◌∷◌, ◌++◌, length, map, Option, Some, None, ap, suc, sym, refl, cond, Bool, true, false, All, IsTrue, arith, subst}
+use Rattle.std.proofs.Common.{◌<◌, ℕ, ◌≡◌, ◌≤◌, ◌∙◌, ◌+◌, ◌&&◌, ◌||◌, not, List, [], ◌∷◌, length, Option, Some, None, ap, sym, refl, cond, Bool, true, false, All, arith, subst}
 use Rattle.std.specs.Option.{option_map}
 use Rattle.std.specs.Map.{lookup}
 use Rattle.std.specs.Str.{bytes_eq}
@@ -13,7 +13,7 @@ use Rattle.row_values.specs.declared.statement.Place.{Place}
 use Rattle.row_values.specs.declared.values.Kind.{Kind}
 use Rattle.row_values.specs.declared.values.Kind.TheVariants.{Int, Text}
 use Rattle.csv_tables.specs.Tables.{TableValue}
-use Rattle.name_binder.specs.Catalog.{Known, is_known, names_differ}
+use Rattle.name_binder.specs.Catalog.{is_known, names_differ}
 use Rattle.session_model.specs.Loading.{is_same_kind, are_same_columns, has_other_columns, passed_limit}
 use Rattle.session_model.specs.State.{TableState, StatementState, find_table, put_table, cells_of, cells_held, bytes_held, catalog_of}
 use Rattle.session_store.specs.Kept.{Kept, tables_in, statements_in, IsKept, IsLoaded, AreTotals}

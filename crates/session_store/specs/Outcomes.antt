@@ -1,5 +1,5 @@
 -- What the calls of a store answer, and what they leave.
-use Rattle.std.specs.Prelude.{ℕ, ◌≡◌, ◌+◌, ◌++◌, ◌∷◌, [], List, length, Result, Ok, Err, MatchResult}
+use Rattle.std.specs.Prelude.{ℕ, ◌≡◌, ◌+◌, ◌++◌, ◌∷◌, [], List, length, Result, Ok, Err}
 use Rattle.row_values.specs.Statements.{Statement}
 use Rattle.row_values.specs.declared.refusals.Refusal.{Refusal}
 use Rattle.name_binder.specs.declared.faults.BindFault.{BindFault}

@@ -2,7 +2,7 @@
 ghost use Rattle.std.specs.Prelude.{◌≡◌, ◌≢◌};
 ghost use Rattle.name_binder.specs.Binding.{binding_of};
 ghost use Rattle.session_model.specs.Faults as faults;
-ghost use Rattle.session_model.specs.Preparing.{bound as bound_or_refused, preparing_of};
+ghost use Rattle.session_model.specs.Preparing.{preparing_of};
 ghost use Rattle.session_model.specs.State.{catalog_of};
 ghost use Rattle.session_store.specs.Outcomes.{Binds, Prepares};
 

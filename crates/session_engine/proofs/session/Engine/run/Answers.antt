@@ -1,13 +1,12 @@
-use Rattle.std.proofs.Common.{ℕ, ◌≡◌, ◌∙◌, ◌+◌, ◌∷◌, [], ap, sym, subst, refl, rules, List, Option, Some, None, true, false, nat_le, length}
+use Rattle.std.proofs.Common.{ℕ, ◌≡◌, ◌∙◌, ◌+◌, ◌∷◌, [], ap, sym, subst, refl, rules, List, Some, None, true, false}
 use Rattle.std.specs.List.{slice_get}
 use Rattle.row_values.specs.Names.{canonical_name}
 use Rattle.row_values.specs.Statements.{kinds_of}
-use Rattle.row_values.specs.declared.refusals.Refusal.{Refusal}
 use Rattle.row_values.specs.declared.values.Kind.{Kind}
 use Rattle.row_values.specs.declared.values.Value.{Value}
 use Rattle.csv_tables.specs.Tables.{TableValue}
 use Rattle.session_model.specs.Running.{args_refusal, is_built}
-use Rattle.session_model.specs.State.{State, TableState, find_statement, tables_of}
+use Rattle.session_model.specs.State.{State, find_statement, tables_of}
 use Rattle.session_engine.specs.Executed.{Executed}
 use Rattle.session_engine.proofs.Runs.{built, refused_run, unknown, misfit, not_built, too_large, runs, executed_run, one_table, some_table}
 use Rattle.session_engine.proofs.session.Engine.run.Goals as goal

@@ -1,8 +1,6 @@
 use Rattle.std.proofs.Common.{ℕ, ◌≡◌, ◌≤◌, ◌<◌, ◌∙◌, ◌++◌, ◌∷◌, [], ap, sym, subst, refl, is_some, true, false, None, length, List, All, arith}
 use Rattle.std.specs.Str.{bytes_eq}
-use Rattle.std.specs.Map.{lookup}
 use Rattle.row_values.specs.Names.{canonical_name}
-use Rattle.row_values.specs.Statements.{Statement}
 use Rattle.indexmap.specs.IndexMap.{insert_entry}
 use Rattle.session_model.specs.State.{TableState, StatementState, find_statement}
 use Rattle.session_store.specs.Kept.{Kept, tables_in, statements_in, IsLoaded}

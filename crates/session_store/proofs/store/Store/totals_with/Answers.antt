@@ -1,4 +1,4 @@
-use Rattle.std.proofs.Common.{ℕ, ◌≡◌, ◌+◌, ◌∙◌, ap, sym, arith, length}
+use Rattle.std.proofs.Common.{◌≡◌, ◌∙◌, ap, sym, arith, length}
 use Rattle.session_model.specs.State.{TableState, cells_of}
 use Rattle.session_store.specs.Kept.{Kept}
 use Rattle.session_store.proofs.Versions.{absent, present, totals_after}
