@@ -1,9 +1,10 @@
 -- Facts on bits and small sets of places; those on sets are seen by trying all of them.
-use Rattle.std.proofs.Common.{ℕ, zero, suc, ◌≡◌, ◌≤◌, ◌<◌, ◌+◌, ◌^◌, ◌/◌, ◌%◌, ◌==◌, ◌&&◌, ◌||◌, nat_lt, Bool, true, false, sym, refl, arith, true≢false, ◌⊎◌, inl, inr}
+use Rattle.std.proofs.Common.{ℕ, zero, suc, ◌≡◌, ◌≤◌, ◌<◌, ◌+◌, ◌^◌, ◌/◌, ◌%◌, ◌==◌, ◌&&◌, ◌||◌, nat_lt, Bool, true, false, sym, refl, arith, true≢false, ◌⊎◌, inl, inr, subst, bit_and}
 use Rattle.std.proofs.Math.Nat.{div-eq_of_lt, pow-le-pow_right}
 use Rattle.std.proofs.lemmas.Bool.Decides.{nat_tests}
-use Rattle.std.proofs.lemmas.Bool.{cases_lt}
-use Rattle.plan_trees.specs.PlaceSets.{has, one}
+use Rattle.std.proofs.lemmas.Bool.{cases_lt, eqb-true}
+use Rattle.std.proofs.lemmas.Nat.{or_lt, or_disjoint}
+use Rattle.plan_trees.specs.PlaceSets.{has, one, are_disjoint}
 
 -- a number below 2 ^ width has no bit from there on
 pub no_bit_past : (width number bit : ℕ) → number < 2 ^ width → width ≤ bit → (number / 2 ^ bit % 2 == 1) ≡ false
@@ -65,3 +66,8 @@ pub one_small : (place : ℕ) → place < 5 → one place < 32
 one_small place few =
     let below : nat_lt (one place) 32 ≡ true = at_each 5 (λ place. nat_lt (one place) 32) place one_is_small few in
     grind (arith, nat_tests)
+
+-- two sets without a place in common stay below the number of sets together
+pub both_below : (left right count : ℕ) → are_disjoint left right ≡ true → left < 2 ^ count → right < 2 ^ count → left + right < 2 ^ count
+both_below left right count apart less few =
+    subst (λ set. set < 2 ^ count) (or_disjoint left right (eqb-true (bit_and left right) 0 apart)) (or_lt count left right less few)

@@ -2,6 +2,7 @@ pub mod AccessLaws
 pub mod Bits
 pub mod NameLaws
 pub mod PieceLaws
+pub mod PlaceCounts
 pub mod PlanLaws
 pub mod ReadLaws
 pub mod Readable

@@ -1,16 +1,16 @@
 -- Plans: each is read from its spelling, and what is read is spelled so.
-use Rattle.std.proofs.Common.{ℕ, zero, suc, ◌≡◌, ◌≤◌, ◌<◌, ◌+◌, ◌-◌, ◌==◌, ◌⊎◌, inl, inr, List, [], ◌∷◌, ◌++◌, length, codes, Bool, true, false, Some, None, if◌then◌else◌, refl, sym, ap, ◌∙◌, subst, arith, append_assoc}
+use Rattle.std.proofs.Common.{ℕ, zero, suc, ◌≡◌, ◌≤◌, ◌<◌, ◌+◌, ◌-◌, ◌==◌, max, ◌⊎◌, inl, inr, List, [], ◌∷◌, ◌++◌, length, codes, Bool, true, false, Some, None, if◌then◌else◌, refl, sym, ap, ◌∙◌, subst, arith, append_assoc}
 use Rattle.std.proofs.lemmas.Bool.{eqb-true}
 use Rattle.row_values.specs.Statements.{Statement}
 use Rattle.plan_trees.specs.declared.plans.Access.{Access}
 use Rattle.plan_trees.specs.declared.plans.Access.TheVariants.{Seq, Range, Full}
 use Rattle.plan_trees.specs.declared.plans.StepKind.{StepKind}
-use Rattle.plan_trees.specs.declared.plans.StepKind.TheVariants.{Loop, Probe, Hash}
+use Rattle.plan_trees.specs.declared.plans.StepKind.TheVariants.{Loop, Probe}
 use Rattle.plan_trees.specs.declared.reading.Form.{Form}
 use Rattle.plan_trees.specs.declared.reading.Form.TheVariants as form
-use Rattle.plan_trees.specs.Reading.{◌>>=◌, after, after_byte, place_at, number_at, access_at, form_at, closed_at, base_at, plan_at, whole_at, top_at}
+use Rattle.plan_trees.specs.Reading.{◌>>=◌, after, after_byte, place_at, number_at, access_at, form_at, closed_at, joined_at, base_at, plan_at, whole_at, top_at}
 use Rattle.plan_trees.specs.Spelling.{HasStep, HasParts, IsPlanText, nesting, place_text, number_text, access_text, step_name, step_text, plan_text, top_text}
-use Rattle.plan_trees.specs.Trees.{Tree, Base, Join, Sort, TopTree, Rows, SortedGroups, HashGroups, plan_below}
+use Rattle.plan_trees.specs.Trees.{Tree, Base, Join, HashJoin, Sort, TopTree, Rows, SortedGroups, HashGroups, plan_below}
 use Rattle.plan_trees.proofs.Words.{plan_more}
 use Rattle.plan_trees.proofs.NameLaws.{bracket, comma}
 use Rattle.plan_trees.proofs.ReadLaws.{Bound, bind_some, byte_taken, word_taken}
@@ -22,19 +22,16 @@ use Rattle.plan_trees.proofs.AccessLaws.{chosen_some, access_front, access_taken
 abbrev form_of : StepKind → Form
 form_of (Loop access) = form.Loop
 form_of (Probe place edge) = form.Probe
-form_of (Hash access edge) = form.Hash
 
 abbrev form_name : Form → List ℕ
 form_name form.Loop = codes "loop("
 form_name form.Probe = codes "probe("
-form_name form.Hash = codes "hash("
 form_name form.Sort = codes "sort("
 
 form_front : (step : StepKind) (rest : List ℕ) → form_at (step_name step ++ rest) ≡ Some (form_of step, rest)
 unfolding form_at
 form_front (Loop access) rest = refl
 form_front (Probe place edge) rest = refl
-form_front (Hash access edge) rest = refl
 
 sort_front : (rest : List ℕ) → form_at (codes "sort(" ++ rest) ≡ Some (form.Sort, rest)
 unfolding form_at
@@ -53,15 +50,23 @@ form_taken text found e =
       | inl b ↦ let same : (form.Loop, b.value) ≡ found = cc in subst (λ (f : Form × List ℕ). text ≡ form_name f.0 ++ f.1) same (word_taken (codes "loop(") text b.value b.first)
       | inr e2 ↦ elim (chosen_some (after (codes "probe(") text) (λ rest. Some (form.Probe, rest)) _ found e2) [
         | inl b ↦ let same : (form.Probe, b.value) ≡ found = cc in subst (λ (f : Form × List ℕ). text ≡ form_name f.0 ++ f.1) same (word_taken (codes "probe(") text b.value b.first)
-        | inr e3 ↦ elim (chosen_some (after (codes "hash(") text) (λ rest. Some (form.Hash, rest)) _ found e3) [
-          | inl b ↦ let same : (form.Hash, b.value) ≡ found = cc in subst (λ (f : Form × List ℕ). text ≡ form_name f.0 ++ f.1) same (word_taken (codes "hash(") text b.value b.first)
-          | inr e4 ↦ elim (chosen_some (after (codes "sort(") text) (λ rest. Some (form.Sort, rest)) None found e4) [
-            | inl b ↦ let same : (form.Sort, b.value) ≡ found = cc in subst (λ (f : Form × List ℕ). text ≡ form_name f.0 ++ f.1) same (word_taken (codes "sort(") text b.value b.first)
-            | inr e5 ↦ cc
-          ]
+        | inr e3 ↦ elim (chosen_some (after (codes "sort(") text) (λ rest. Some (form.Sort, rest)) None found e3) [
+          | inl b ↦ let same : (form.Sort, b.value) ≡ found = cc in subst (λ (f : Form × List ℕ). text ≡ form_name f.0 ++ f.1) same (word_taken (codes "sort(") text b.value b.first)
+          | inr e4 ↦ cc
         ]
       ]
     ]
+
+-- A hash join is no form over one plan.
+
+step_no_hash : (step : StepKind) (rest : List ℕ) → after (codes "hash(") (step_name step ++ rest) ≡ None
+step_no_hash (Loop access) rest = refl
+step_no_hash (Probe place edge) rest = refl
+
+access_no_hash : (q : Statement) (access : Access) (rest : List ℕ) → after (codes "hash(") (access_text q.places access ++ rest) ≡ None
+access_no_hash q (Seq t) rest = refl
+access_no_hash q (Range t c j) rest = refl
+access_no_hash q (Full t c) rest = refl
 
 -- What stands behind the outer plan.
 
@@ -78,13 +83,6 @@ closed_front q (Probe place edge) outer rest readable there =
   where
     in_probe : (a b r : List ℕ) → (((a ++ 44 ∷ []) ++ b) ++ 41 ∷ []) ++ r ≡ a ++ 44 ∷ (b ++ 41 ∷ r)
     in_probe a b r = simp append_assoc
-closed_front q (Hash access edge) outer rest readable there =
-    ap (λ (text : List ℕ). access_at q text >>= λ a. after_byte 44 a.1 >>= λ r. number_at 41 (length q.edges) r >>= λ e. Some (Join outer (Hash a.0 e.0), e.1))
-    (in_hash (access_text q.places access) (number_text edge) rest)
-    ∙ rw (access_front q access (44 ∷ (number_text edge ++ 41 ∷ rest)) readable there.0) (rw (number_front 41 (length q.edges) edge rest bracket readable.edges there.1) refl)
-  where
-    in_hash : (a b r : List ℕ) → (((a ++ 44 ∷ []) ++ b) ++ 41 ∷ []) ++ r ≡ a ++ 44 ∷ (b ++ 41 ∷ r)
-    in_hash a b r = simp append_assoc
 
 pub record TakenClosed (q : Statement) (f : Form) (outer : Tree) (text : List ℕ) (found : Tree × List ℕ) : Type 0 where
   pub parts : HasParts q outer → HasParts q found.0
@@ -126,34 +124,43 @@ closed_taken q form.Probe outer text found e =
     let spelled : text ≡ step_text q.places (Probe place.0 edge.0) ++ edge.1 = behind ∙ ap (λ (tail : List ℕ). 44 ∷ tail) (two_parts (place_text q.places place.0) (number_text edge.0) edge.1) in
     subst (λ (x : Tree × List ℕ). TakenClosed q form.Probe outer text x) same
     (record { parts = λ o. (o, (p.there, omega arith)); deeper = refl; taken = in_order (codes "probe(") (plan_text q.places outer) (step_text q.places (Probe place.0 edge.0)) text edge.1 spelled })
-closed_taken q form.Hash outer text found e =
-    let s1 = bind_some (after_byte 44 text) (λ rest. access_at q rest >>= λ a. after_byte 44 a.1 >>= λ r. number_at 41 (length q.edges) r >>= λ n. Some (Join outer (Hash a.0 n.0), n.1)) found e in
-    let s2 = bind_some (access_at q s1.value) (λ a. after_byte 44 a.1 >>= λ r. number_at 41 (length q.edges) r >>= λ n. Some (Join outer (Hash a.0 n.0), n.1)) found s1.second in
-    let access = s2.value in
-    let s3 = bind_some (after_byte 44 access.1) (λ r. number_at 41 (length q.edges) r >>= λ n. Some (Join outer (Hash access.0 n.0), n.1)) found s2.second in
-    let s4 = bind_some (number_at 41 (length q.edges) s3.value) (λ n. Some (Join outer (Hash access.0 n.0), n.1)) found s3.second in
-    let edge = s4.value in
-    let same : (Join outer (Hash access.0 edge.0), edge.1) ≡ found = cc in
-    let a = access_taken q s1.value access s2.first in
-    let n = number_taken 41 (length q.edges) s3.value edge s4.first in
-    let high = n.high in
-    let behind : text ≡ 44 ∷ (access_text q.places access.0 ++ 44 ∷ (number_text edge.0 ++ 41 ∷ edge.1)) =
-    byte_taken 44 text s1.value s1.first ∙ ap (λ (tail : List ℕ). 44 ∷ tail) (a.taken ∙ ap (λ (tail : List ℕ). access_text q.places access.0 ++ tail) (byte_taken 44 access.1 s3.value s3.first ∙ ap (λ (tail : List ℕ). 44 ∷ tail) n.taken)) in
-    let spelled : text ≡ step_text q.places (Hash access.0 edge.0) ++ edge.1 = behind ∙ ap (λ (tail : List ℕ). 44 ∷ tail) (two_parts (access_text q.places access.0) (number_text edge.0) edge.1) in
-    subst (λ (x : Tree × List ℕ). TakenClosed q form.Hash outer text x) same
-    (record { parts = λ o. (o, (a.there, omega arith)); deeper = refl; taken = in_order (codes "hash(") (plan_text q.places outer) (step_text q.places (Hash access.0 edge.0)) text edge.1 spelled })
 closed_taken q form.Sort outer text found e =
     let s1 = bind_some (after_byte 41 text) (λ rest. Some (Sort outer, rest)) found e in
     let same : (Sort outer, s1.value) ≡ found = cc in
     subst (λ (x : Tree × List ℕ). TakenClosed q form.Sort outer text x) same
     (record { parts = λ o. o; deeper = refl; taken = in_order (codes "sort(") (plan_text q.places outer) (41 ∷ []) text s1.value (byte_taken 41 text s1.value s1.first) })
 
--- Plans.
+-- What stands behind the inner plan of a hash join.
 
-some_nested : (plan : Tree) → 0 < nesting plan
-some_nested (Base access) = omega arith
-some_nested (Join outer step) = omega arith
-some_nested (Sort outer) = omega arith
+joined_front : (q : Statement) (outer inner : Tree) (edge : ℕ) (rest : List ℕ) → IsReadable q → edge < length q.edges
+    → joined_at q outer inner (44 ∷ (number_text edge ++ 41 ∷ rest)) ≡ Some (HashJoin outer inner edge, rest)
+unfolding joined_at
+joined_front q outer inner edge rest readable there = rw (number_front 41 (length q.edges) edge rest bracket readable.edges there) refl
+
+pub record TakenJoined (q : Statement) (outer inner : Tree) (text : List ℕ) (found : Tree × List ℕ) : Type 0 where
+  pub parts : HasParts q outer → HasParts q inner → HasParts q found.0
+  pub deeper : nesting found.0 ≡ max (nesting outer) (nesting inner) + 1
+  pub taken : codes "hash(" ++ (plan_text q.places outer ++ 44 ∷ (plan_text q.places inner ++ text)) ≡ plan_text q.places found.0 ++ found.1
+
+hash_in_order : (outer inner number rest : List ℕ) → ((((outer ++ 44 ∷ []) ++ inner) ++ 44 ∷ []) ++ number ++ 41 ∷ []) ++ rest ≡ outer ++ 44 ∷ (inner ++ 44 ∷ (number ++ 41 ∷ rest))
+hash_in_order outer inner number rest = simp append_assoc
+
+joined_taken : (q : Statement) (outer inner : Tree) (text : List ℕ) (found : Tree × List ℕ) → joined_at q outer inner text ≡ Some found → TakenJoined q outer inner text found
+unfolding joined_at
+joined_taken q outer inner text found e =
+    let s1 = bind_some (after_byte 44 text) (λ rest. number_at 41 (length q.edges) rest >>= λ n. Some (HashJoin outer inner n.0, n.1)) found e in
+    let s2 = bind_some (number_at 41 (length q.edges) s1.value) (λ n. Some (HashJoin outer inner n.0, n.1)) found s1.second in
+    let edge = s2.value in
+    let same : (HashJoin outer inner edge.0, edge.1) ≡ found = cc in
+    let n = number_taken 41 (length q.edges) s1.value edge s2.first in
+    let high = n.high in
+    let behind : text ≡ 44 ∷ (number_text edge.0 ++ 41 ∷ edge.1) = byte_taken 44 text s1.value s1.first ∙ ap (λ (tail : List ℕ). 44 ∷ tail) n.taken in
+    let whole : codes "hash(" ++ (plan_text q.places outer ++ 44 ∷ (plan_text q.places inner ++ text)) ≡ plan_text q.places (HashJoin outer inner edge.0) ++ edge.1 =
+    ap (λ (tail : List ℕ). codes "hash(" ++ (plan_text q.places outer ++ 44 ∷ (plan_text q.places inner ++ tail))) behind
+    ∙ ap (λ (tail : List ℕ). codes "hash(" ++ tail) (sym (hash_in_order (plan_text q.places outer) (plan_text q.places inner) (number_text edge.0) edge.1)) in
+    subst (λ (x : Tree × List ℕ). TakenJoined q outer inner text x) same (record { parts = λ o i. (o, i, omega arith); deeper = refl; taken = whole })
+
+-- Plans.
 
 sort_closed : (q : Statement) (outer : Tree) (rest : List ℕ) → closed_at q form.Sort outer (41 ∷ rest) ≡ Some (Sort outer, rest)
 unfolding closed_at
@@ -162,14 +169,24 @@ sort_closed q outer rest = refl
 pub plan_front : (q : Statement) (plan : Tree) (room : ℕ) (rest : List ℕ) → IsReadable q → HasParts q plan → nesting plan ≤ room → plan_at room q (plan_text q.places plan ++ rest) ≡ Some (plan, rest)
 unfolding base_at
 plan_front q (Base access) room rest readable there fits =
-    plan_more room q (access_text q.places access ++ rest) (omega arith) ∙ rw (no_form q access rest) (rw (access_front q access rest readable there) refl)
+    plan_more room q (access_text q.places access ++ rest) (omega arith) ∙ rw (access_no_hash q access rest, no_form q access rest) (rw (access_front q access rest readable there) refl)
 plan_front q (Join outer step) room rest readable there fits =
     let inside : List ℕ = plan_text q.places outer ++ (step_text q.places step ++ rest) in
     let parted : ((step_name step ++ plan_text q.places outer) ++ step_text q.places step) ++ rest ≡ step_name step ++ inside =
     append_assoc (step_name step ++ plan_text q.places outer) (step_text q.places step) rest ∙ append_assoc (step_name step) (plan_text q.places outer) (step_text q.places step ++ rest) in
     let below : nesting outer ≤ room - 1 = omega arith in
     ap (plan_at room q) parted ∙ plan_more room q (step_name step ++ inside) (omega arith)
-    ∙ rw (form_front step inside) (rw (plan_front q outer (room - 1) (step_text q.places step ++ rest) readable there.0 below) (closed_front q step outer rest readable there.1))
+    ∙ rw (step_no_hash step inside, form_front step inside) (rw (plan_front q outer (room - 1) (step_text q.places step ++ rest) readable there.0 below) (closed_front q step outer rest readable there.1))
+plan_front q (HashJoin outer inner edge) room rest readable there fits =
+    let behind : List ℕ = 44 ∷ (number_text edge ++ 41 ∷ rest) in
+    let inside : List ℕ = plan_text q.places outer ++ 44 ∷ (plan_text q.places inner ++ behind) in
+    let parted : plan_text q.places (HashJoin outer inner edge) ++ rest ≡ codes "hash(" ++ inside =
+    ap (λ (tail : List ℕ). codes "hash(" ++ tail) (hash_in_order (plan_text q.places outer) (plan_text q.places inner) (number_text edge) rest) in
+    let left : nesting outer ≤ room - 1 = omega arith in
+    let right : nesting inner ≤ room - 1 = omega arith in
+    ap (plan_at room q) parted ∙ plan_more room q (codes "hash(" ++ inside) (omega arith)
+    ∙ rw (plan_front q outer (room - 1) (44 ∷ (plan_text q.places inner ++ behind)) readable there.0 left)
+    (rw (plan_front q inner (room - 1) behind readable there.1 right) (joined_front q outer inner edge rest readable there.2))
 plan_front q (Sort outer) room rest readable there fits =
     let inside : List ℕ = plan_text q.places outer ++ (41 ∷ rest) in
     let parted : ((codes "sort(" ++ plan_text q.places outer) ++ codes ")") ++ rest ≡ codes "sort(" ++ inside =
@@ -191,25 +208,50 @@ base_taken q room text found e =
     let a = access_taken q text step.value step.first in
     subst (λ (x : Tree × List ℕ). TakenPlan q (suc room) text x) same (record { parts = a.there; fits = omega arith; taken = a.taken })
 
+-- a reader of plans with this much room
+abbrev ReadsTaken : ℕ → Statement → Type 0
+ReadsTaken room q = (inside : List ℕ) (plan : Tree × List ℕ) → plan_at room q inside ≡ Some plan → TakenPlan q room inside plan
+
+over_two : (room : ℕ) (q : Statement) (text : List ℕ) (found : Tree × List ℕ)
+    → Bound (after (codes "hash(") text) (λ rest. plan_at room q rest >>= λ outer. after_byte 44 outer.1 >>= λ rest. plan_at room q rest >>= λ inner. joined_at q outer.0 inner.0 inner.1) found
+    → ReadsTaken room q → TakenPlan q (suc room) text found
+over_two room q text found b below =
+    let s1 = bind_some (plan_at room q b.value) (λ outer. after_byte 44 outer.1 >>= λ rest. plan_at room q rest >>= λ inner. joined_at q outer.0 inner.0 inner.1) found b.second in
+    let outer = s1.value in
+    let s2 = bind_some (after_byte 44 outer.1) (λ rest. plan_at room q rest >>= λ inner. joined_at q outer.0 inner.0 inner.1) found s1.second in
+    let s3 = bind_some (plan_at room q s2.value) (λ inner. joined_at q outer.0 inner.0 inner.1) found s2.second in
+    let inner = s3.value in
+    let o = below b.value outer s1.first in
+    let i = below s2.value inner s3.first in
+    let j = joined_taken q outer.0 inner.0 inner.1 found s3.second in
+    let left = o.fits in
+    let right = i.fits in
+    let deeper = j.deeper in
+    let both : b.value ≡ plan_text q.places outer.0 ++ 44 ∷ (plan_text q.places inner.0 ++ inner.1) =
+    o.taken ∙ ap (λ (tail : List ℕ). plan_text q.places outer.0 ++ tail) (byte_taken 44 outer.1 s2.value s2.first ∙ ap (λ (tail : List ℕ). 44 ∷ tail) i.taken) in
+    record { parts = j.parts o.parts i.parts; fits = omega arith; taken = word_taken (codes "hash(") text b.value b.first ∙ ap (λ (tail : List ℕ). codes "hash(" ++ tail) both ∙ j.taken }
+
+over_one : (room : ℕ) (q : Statement) (text : List ℕ) (found : Tree × List ℕ)
+    → Bound (form_at text) (λ f. plan_at room q f.1 >>= λ outer. closed_at q f.0 outer.0 outer.1) found ⊎ (base_at q text ≡ Some found) → ReadsTaken room q → TakenPlan q (suc room) text found
+over_one room q text found (inr e) below = base_taken q room text found e
+over_one room q text found (inl b) below =
+    let f = b.value in
+    let step = bind_some (plan_at room q f.1) (λ outer. closed_at q f.0 outer.0 outer.1) found b.second in
+    let outer = step.value in
+    let o = below f.1 outer step.first in
+    let c = closed_taken q f.0 outer.0 outer.1 found step.second in
+    let fits = o.fits in
+    let deeper = c.deeper in
+    record { parts = c.parts o.parts; fits = omega arith; taken = form_taken text f b.first ∙ ap (λ (tail : List ℕ). form_name f.0 ++ tail) o.taken ∙ c.taken }
+
 pub plan_taken : (room : ℕ) (q : Statement) (text : List ℕ) (found : Tree × List ℕ) → plan_at room q text ≡ Some found → TakenPlan q room text found
 unfolding plan_at
 plan_taken zero q text found e = cc
 plan_taken (suc room) q text found e =
-    over_outer room q text found (chosen_some (form_at text) (λ f. plan_at room q f.1 >>= λ outer. closed_at q f.0 outer.0 outer.1) (base_at q text) found e) (λ inside outer e. plan_taken room q inside outer e)
-  where
-    over_outer : (room : ℕ) (q : Statement) (text : List ℕ) (found : Tree × List ℕ)
-        → Bound (form_at text) (λ f. plan_at room q f.1 >>= λ outer. closed_at q f.0 outer.0 outer.1) found ⊎ (base_at q text ≡ Some found)
-        → ((inside : List ℕ) (outer : Tree × List ℕ) → plan_at room q inside ≡ Some outer → TakenPlan q room inside outer) → TakenPlan q (suc room) text found
-    over_outer room q text found (inr e) below = base_taken q room text found e
-    over_outer room q text found (inl b) below =
-        let f = b.value in
-        let step = bind_some (plan_at room q f.1) (λ outer. closed_at q f.0 outer.0 outer.1) found b.second in
-        let outer = step.value in
-        let o = below f.1 outer step.first in
-        let c = closed_taken q f.0 outer.0 outer.1 found step.second in
-        let fits = o.fits in
-        let deeper = c.deeper in
-        record { parts = c.parts o.parts; fits = omega arith; taken = form_taken text f b.first ∙ ap (λ (tail : List ℕ). form_name f.0 ++ tail) o.taken ∙ c.taken }
+    elim (chosen_some (after (codes "hash(") text) (λ rest. plan_at room q rest >>= λ outer. after_byte 44 outer.1 >>= λ rest. plan_at room q rest >>= λ inner. joined_at q outer.0 inner.0 inner.1) _ found e) [
+      | inl b ↦ over_two room q text found b (λ inside plan h. plan_taken room q inside plan h)
+      | inr e2 ↦ over_one room q text found (chosen_some (form_at text) (λ f. plan_at room q f.1 >>= λ outer. closed_at q f.0 outer.0 outer.1) (base_at q text) found e2) (λ inside plan h. plan_taken room q inside plan h)
+    ]
 
 -- Tops.
 

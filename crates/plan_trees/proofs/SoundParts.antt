@@ -9,7 +9,7 @@ use Rattle.row_values.specs.declared.statement.ColRef.{ColRef}
 use Rattle.plan_trees.specs.declared.plans.Access.{Access}
 use Rattle.plan_trees.specs.declared.plans.Access.TheVariants.{Seq, Range, Full}
 use Rattle.plan_trees.specs.declared.plans.StepKind.{StepKind}
-use Rattle.plan_trees.specs.declared.plans.StepKind.TheVariants.{Loop, Probe, Hash}
+use Rattle.plan_trees.specs.declared.plans.StepKind.TheVariants.{Loop, Probe}
 use Rattle.plan_trees.specs.PlanSpace.{IsValidAccess, IsValidStep, column_of}
 use Rattle.plan_trees.specs.Trees.{place_of, place_entering}
 
@@ -34,4 +34,3 @@ access_in_range q indexed (Full place column) valid = column_in_range q.places (
 pub step_in_range : (q : Statement) (indexed : List ℕ) (set : ℕ) (step : StepKind) → IsValidStep q indexed set step → place_entering step < length q.places
 step_in_range q indexed set (Loop access) valid = access_in_range q indexed access valid.0
 step_in_range q indexed set (Probe place edge) valid = valid.0
-step_in_range q indexed set (Hash access edge) valid = access_in_range q indexed access valid.0

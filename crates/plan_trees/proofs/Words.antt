@@ -1,5 +1,5 @@
 -- What stands behind words, names and numbers.
-use Rattle.std.proofs.Common.{ℕ, zero, suc, ◌≡◌, ◌≤◌, ◌<◌, ◌+◌, ◌-◌, ◌/◌, ◌%◌, ◌||◌, nat_lt, List, [], ◌∷◌, ◌++◌, Bool, true, false, Option, Some, None, refl, ap, ◌∙◌, arith, sub-one}
+use Rattle.std.proofs.Common.{ℕ, zero, suc, ◌≡◌, ◌≤◌, ◌<◌, ◌+◌, ◌-◌, ◌/◌, ◌%◌, ◌||◌, nat_lt, List, [], ◌∷◌, ◌++◌, codes, Bool, true, false, Option, Some, None, refl, ap, ◌∙◌, arith, sub-one}
 use Rattle.std.specs.Str.{bytes_eq}
 use Rattle.std.specs.Fmt.{decimal, digits}
 use Rattle.std.specs.List.{flat_map}
@@ -7,7 +7,7 @@ use Rattle.std.proofs.lemmas.Fmt.{decimal_digit}
 use Rattle.std.proofs.lemmas.Grind.{common_steps}
 use Rattle.std.proofs.lemmas.Slice.Eq.{bytes_eq-Decides}
 use Rattle.row_values.specs.Names.{doubled, quoted_name}
-use Rattle.plan_trees.specs.Reading.{◌>>=◌, chosen, after, after_byte, after_ended, first_at, number_words, plan_at, form_at, closed_at, base_at}
+use Rattle.plan_trees.specs.Reading.{◌>>=◌, chosen, after, after_byte, after_ended, first_at, number_words, plan_at, form_at, closed_at, joined_at, base_at}
 use Rattle.row_values.specs.Statements.{Statement}
 use Rattle.plan_trees.specs.Spelling.{number_text}
 use Rattle.plan_trees.proofs.Bits.{all_pass, at_each, or_right}
@@ -80,7 +80,10 @@ first_number end n count text less =
 
 -- a plan where some room is left
 pub plan_more : (room : ℕ) (q : Statement) (text : List ℕ) → 0 < room
-    → plan_at room q text ≡ chosen (form_at text) (λ f. plan_at (room - 1) q f.1 >>= λ outer. closed_at q f.0 outer.0 outer.1) (base_at q text)
+    → plan_at room q text
+    ≡ chosen (after (codes "hash(") text)
+    (λ rest. plan_at (room - 1) q rest >>= λ outer. after_byte 44 outer.1 >>= λ rest. plan_at (room - 1) q rest >>= λ inner. joined_at q outer.0 inner.0 inner.1)
+    (chosen (form_at text) (λ f. plan_at (room - 1) q f.1 >>= λ outer. closed_at q f.0 outer.0 outer.1) (base_at q text))
 unfolding plan_at
 plan_more zero q text some = absurd (omega arith)
 plan_more (suc room) q text some = rw sub-one refl

@@ -1,5 +1,5 @@
 -- Sets of places: the sum of 2 ^ t over the places t, which are counted from 0 in the order of FROM.
-use Rattle.std.specs.Prelude.{ℕ, ◌-◌, ◌/◌, ◌%◌, ◌^◌, ◌==◌, Bool}
+use Rattle.std.specs.Prelude.{ℕ, ◌-◌, ◌/◌, ◌%◌, ◌^◌, ◌==◌, Bool, bit_and}
 
 -- whether the set has this place
 abbrev pub has : ℕ → ℕ → Bool
@@ -12,3 +12,7 @@ one place = 2 ^ place
 -- the set of the places below this number
 abbrev pub all_below : ℕ → ℕ
 all_below count = 2 ^ count - 1
+
+-- no place is in both sets; the set of the places of both is then their sum
+abbrev pub are_disjoint : ℕ → ℕ → Bool
+are_disjoint left right = bit_and left right == 0

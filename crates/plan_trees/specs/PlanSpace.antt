@@ -8,10 +8,10 @@ use Rattle.row_values.specs.declared.statement.OrderKey.{OrderKey}
 use Rattle.plan_trees.specs.declared.plans.Access.{Access}
 use Rattle.plan_trees.specs.declared.plans.Access.TheVariants.{Seq, Range, Full}
 use Rattle.plan_trees.specs.declared.plans.StepKind.{StepKind}
-use Rattle.plan_trees.specs.declared.plans.StepKind.TheVariants.{Loop, Probe, Hash}
+use Rattle.plan_trees.specs.declared.plans.StepKind.TheVariants.{Loop, Probe}
 use Rattle.plan_trees.specs.Indexes.{has_index}
-use Rattle.plan_trees.specs.PlaceSets.{has, all_below}
-use Rattle.plan_trees.specs.Trees.{Tree, Base, Join, Sort, TopTree, Rows, SortedGroups, HashGroups, place_of, places_of, plan_below}
+use Rattle.plan_trees.specs.PlaceSets.{has, all_below, are_disjoint}
+use Rattle.plan_trees.specs.Trees.{Tree, Base, Join, HashJoin, Sort, TopTree, Rows, SortedGroups, HashGroups, place_of, places_of, plan_below}
 
 abbrev pub column_of : ℕ → ℕ → ColRef
 column_of place column = record { place = place; column = column }
@@ -42,7 +42,7 @@ abbrev pub has_all_keys : ℕ → List OrderKey → Bool
 has_all_keys set [] = true
 has_all_keys set (key ∷ keys) = has set key.at.place && has_all_keys set keys
 
--- Accesses and steps.
+-- Accesses, steps and hash joins.
 
 -- an access of a place that is there; an index is on the column, and a range's predicate is on that column
 abbrev pub IsValidAccess : Statement → List ℕ → Access → Type 0
@@ -67,9 +67,16 @@ IsValidStep q indexed set (Loop access) = IsValidAccess q indexed access × (has
 IsValidStep q indexed set (Probe place edge) =
     (place < length q.places) × (has set place ≡ false)
     × IsSomeAnd (slice_get q.edges edge) (λ e. IsTrue (joins_to set place e) × IsTrue (has_index indexed place (column_in place e)))
-IsValidStep q indexed set (Hash access edge) =
-    IsValidAccess q indexed access × (has set (place_of access) ≡ false)
-    × IsSomeAnd (slice_get q.edges edge) (λ e. IsTrue (joins_to set (place_of access) e))
+
+-- the edge joins a place of the one set to a place of the other
+abbrev pub joins_sets : ℕ → ℕ → Edge → Bool
+joins_sets left right edge =
+    (has left edge.left.place && has right edge.right.place) || (has left edge.right.place && has right edge.left.place)
+
+-- a hash join takes two sets together that have no place in common, on an edge between them
+abbrev pub IsValidHashJoin : Statement → ℕ → ℕ → ℕ → Type 0
+IsValidHashJoin q left right edge =
+    IsTrue (are_disjoint left right) × IsSomeAnd (slice_get q.edges edge) (λ e. IsTrue (joins_sets left right e))
 
 -- Plans.
 
@@ -79,10 +86,11 @@ is_sorted_access q (Seq place) = false
 is_sorted_access q (Range place column pred) = is_only_key (wanted_order q) (column_of place column)
 is_sorted_access q (Full place column) = is_only_key (wanted_order q) (column_of place column)
 
--- the rows come in the wanted order, of which there is one: steps keep the order of the outer side
+-- the rows come in the wanted order, of which there is one: steps and hash joins keep the order of the outer side
 abbrev pub is_sorted_plan : Statement → Tree → Bool
 is_sorted_plan q (Base access) = is_sorted_access q access
 is_sorted_plan q (Join outer step) = is_sorted_plan q outer
+is_sorted_plan q (HashJoin outer inner edge) = is_sorted_plan q outer
 is_sorted_plan q (Sort outer) = wants_order q
 
 abbrev pub IsSortedPlan : Statement → Tree → Type 0
@@ -92,6 +100,8 @@ IsSortedPlan q plan = IsTrue (is_sorted_plan q plan)
 abbrev pub IsValidPlan : Statement → List ℕ → Tree → Type 0
 IsValidPlan q indexed (Base access) = IsValidAccess q indexed access
 IsValidPlan q indexed (Join outer step) = IsValidPlan q indexed outer × IsValidStep q indexed (places_of outer) step
+IsValidPlan q indexed (HashJoin outer inner edge) =
+    IsValidPlan q indexed outer × IsValidPlan q indexed inner × IsValidHashJoin q (places_of outer) (places_of inner) edge
 IsValidPlan q indexed (Sort outer) =
     IsValidPlan q indexed outer × IsTrue (wants_order q) × IsTrue (has_all_keys (places_of outer) (wanted_order q)) × (is_sorted_plan q outer ≡ false)
 

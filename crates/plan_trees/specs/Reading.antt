@@ -6,13 +6,13 @@ use Rattle.row_values.specs.declared.columns.Column.{Column}
 use Rattle.row_values.specs.declared.statement.Place.{Place}
 use Rattle.plan_trees.specs.declared.plans.Access.{Access}
 use Rattle.plan_trees.specs.declared.plans.Access.TheVariants.{Seq, Range, Full}
-use Rattle.plan_trees.specs.declared.plans.StepKind.TheVariants.{Loop, Probe, Hash}
+use Rattle.plan_trees.specs.declared.plans.StepKind.TheVariants.{Loop, Probe}
 use Rattle.plan_trees.specs.declared.reading.Form.{Form}
 use Rattle.plan_trees.specs.declared.reading.Form.TheVariants as form
 use Rattle.plan_trees.specs.declared.reading.PlanFault.{PlanFault}
 use Rattle.plan_trees.specs.declared.reading.PlanFault.TheVariants.{NotAPlan, Memory}
 use Rattle.plan_trees.specs.Spelling.{columns_of, number_text}
-use Rattle.plan_trees.specs.Trees.{Tree, Base, Join, Sort, TopTree, Rows, SortedGroups, HashGroups}
+use Rattle.plan_trees.specs.Trees.{Tree, Base, Join, HashJoin, Sort, TopTree, Rows, SortedGroups, HashGroups}
 
 infixl 10 ◌>>=◌
 abbrev pub ◌>>=◌ : {A B : Type 0} → Option A → (A → Option B) → Option B
@@ -99,11 +99,11 @@ access_at q text =
 
 -- Plans.
 
--- the form of a plan that isn't an access alone, and the text behind its bracket
+-- the form of a plan over one plan, and the text behind its bracket
 unfoldable pub form_at : List ℕ → Option (Form × List ℕ)
 form_at text =
     chosen (after (codes "loop(") text) (λ rest. Some (form.Loop, rest)) (chosen (after (codes "probe(") text) (λ rest. Some (form.Probe, rest))
-    (chosen (after (codes "hash(") text) (λ rest. Some (form.Hash, rest)) (chosen (after (codes "sort(") text) (λ rest. Some (form.Sort, rest)) None)))
+    (chosen (after (codes "sort(") text) (λ rest. Some (form.Sort, rest)) None))
 
 -- the plan of this form over an outer plan, from what stands behind that
 unfoldable pub closed_at : Statement → Form → Tree → List ℕ → Option (Tree × List ℕ)
@@ -117,15 +117,16 @@ closed_at q form.Probe outer text = do
   place ← place_at 44 q.places rest
   edge ← number_at 41 (length q.edges) place.1
   Some (Join outer (Probe place.0 edge.0), edge.1)
-closed_at q form.Hash outer text = do
-  rest ← after_byte 44 text
-  access ← access_at q rest
-  rest ← after_byte 44 access.1
-  edge ← number_at 41 (length q.edges) rest
-  Some (Join outer (Hash access.0 edge.0), edge.1)
 closed_at q form.Sort outer text = do
   rest ← after_byte 41 text
   Some (Sort outer, rest)
+
+-- the hash join of two plans, from what stands behind the inner one
+unfoldable pub joined_at : Statement → Tree → Tree → List ℕ → Option (Tree × List ℕ)
+joined_at q outer inner text = do
+  rest ← after_byte 44 text
+  edge ← number_at 41 (length q.edges) rest
+  Some (HashJoin outer inner edge.0, edge.1)
 
 unfoldable pub base_at : Statement → List ℕ → Option (Tree × List ℕ)
 base_at q text = do
@@ -135,7 +136,10 @@ base_at q text = do
 -- a plan with at most so many nested
 unfoldable pub plan_at : ℕ → Statement → List ℕ → Option (Tree × List ℕ)
 plan_at zero q text = None
-plan_at (suc room) q text = chosen (form_at text) (λ f. plan_at room q f.1 >>= λ outer. closed_at q f.0 outer.0 outer.1) (base_at q text)
+plan_at (suc room) q text =
+    chosen (after (codes "hash(") text)
+    (λ rest. plan_at room q rest >>= λ outer. after_byte 44 outer.1 >>= λ rest. plan_at room q rest >>= λ inner. joined_at q outer.0 inner.0 inner.1)
+    (chosen (form_at text) (λ f. plan_at room q f.1 >>= λ outer. closed_at q f.0 outer.0 outer.1) (base_at q text))
 
 -- Tops.
 

@@ -1,5 +1,5 @@
 -- The spelling of plans: no spaces, places by their aliases, numbers from 1.
-use Rattle.std.specs.Prelude.{ℕ, ◌<◌, ◌≤◌, ◌+◌, ◌≡◌, List, [], ◌++◌, length, codes, slice_get}
+use Rattle.std.specs.Prelude.{ℕ, ◌<◌, ◌≤◌, ◌+◌, ◌≡◌, max, List, [], ◌++◌, length, codes, slice_get}
 use Rattle.std.specs.Option.{option_map_or}
 use Rattle.std.specs.Fmt.{decimal}
 use Rattle.row_values.specs.Names.{canonical_name}
@@ -9,9 +9,9 @@ use Rattle.row_values.specs.declared.statement.Place.{Place}
 use Rattle.plan_trees.specs.declared.plans.Access.{Access}
 use Rattle.plan_trees.specs.declared.plans.Access.TheVariants.{Seq, Range, Full}
 use Rattle.plan_trees.specs.declared.plans.StepKind.{StepKind}
-use Rattle.plan_trees.specs.declared.plans.StepKind.TheVariants.{Loop, Probe, Hash}
+use Rattle.plan_trees.specs.declared.plans.StepKind.TheVariants.{Loop, Probe}
 use Rattle.plan_trees.specs.PlanSpace.{column_of}
-use Rattle.plan_trees.specs.Trees.{Tree, Base, Join, Sort, TopTree, Rows, SortedGroups, HashGroups, plan_below}
+use Rattle.plan_trees.specs.Trees.{Tree, Base, Join, HashJoin, Sort, TopTree, Rows, SortedGroups, HashGroups, plan_below}
 
 -- What a spelling is made of.
 
@@ -46,16 +46,16 @@ access_text places (Full place column) = codes "full(" ++ place_text places plac
 abbrev pub step_name : StepKind → List ℕ
 step_name (Loop access) = codes "loop("
 step_name (Probe place edge) = codes "probe("
-step_name (Hash access edge) = codes "hash("
 
 abbrev pub step_text : List Place → StepKind → List ℕ
 step_text places (Loop access) = codes "," ++ access_text places access ++ codes ")"
 step_text places (Probe place edge) = codes "," ++ place_text places place ++ codes "," ++ number_text edge ++ codes ")"
-step_text places (Hash access edge) = codes "," ++ access_text places access ++ codes "," ++ number_text edge ++ codes ")"
 
 abbrev pub plan_text : List Place → Tree → List ℕ
 plan_text places (Base access) = access_text places access
 plan_text places (Join outer step) = step_name step ++ plan_text places outer ++ step_text places step
+plan_text places (HashJoin outer inner edge) =
+    codes "hash(" ++ plan_text places outer ++ codes "," ++ plan_text places inner ++ codes "," ++ number_text edge ++ codes ")"
 plan_text places (Sort outer) = codes "sort(" ++ plan_text places outer ++ codes ")"
 
 abbrev pub top_text : List Place → TopTree → List ℕ
@@ -73,17 +73,18 @@ HasAccess q (Full place column) = IsColumn q.places (column_of place column)
 abbrev pub HasStep : Statement → StepKind → Type 0
 HasStep q (Loop access) = HasAccess q access
 HasStep q (Probe place edge) = (place < length q.places) × (edge < length q.edges)
-HasStep q (Hash access edge) = HasAccess q access × (edge < length q.edges)
 
 abbrev pub HasParts : Statement → Tree → Type 0
 HasParts q (Base access) = HasAccess q access
 HasParts q (Join outer step) = HasParts q outer × HasStep q step
+HasParts q (HashJoin outer inner edge) = HasParts q outer × HasParts q inner × (edge < length q.edges)
 HasParts q (Sort outer) = HasParts q outer
 
 -- the plans on the longest way down
 abbrev pub nesting : Tree → ℕ
 nesting (Base access) = 1
 nesting (Join outer step) = nesting outer + 1
+nesting (HashJoin outer inner edge) = max (nesting outer) (nesting inner) + 1
 nesting (Sort outer) = nesting outer + 1
 
 pub record IsPlanText (q : Statement) (text : List ℕ) (top : TopTree) : Type 0 where

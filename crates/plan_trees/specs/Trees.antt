@@ -4,14 +4,15 @@ use Rattle.plan_trees.specs.PlaceSets.{one}
 use Rattle.plan_trees.specs.declared.plans.Access.{Access}
 use Rattle.plan_trees.specs.declared.plans.Access.TheVariants.{Seq, Range, Full}
 use Rattle.plan_trees.specs.declared.plans.StepKind.{StepKind}
-use Rattle.plan_trees.specs.declared.plans.StepKind.TheVariants.{Loop, Probe, Hash}
+use Rattle.plan_trees.specs.declared.plans.StepKind.TheVariants.{Loop, Probe}
 use Rattle.plan_trees.specs.declared.plans.Plan as declared
 use Rattle.plan_trees.specs.declared.plans.Top as top
 
--- a plan: an access, a plan with one more place, or a sorted plan
+-- a plan: an access, a plan with one more place, a hash join of two plans on an edge, or a sorted plan
 pub data Tree : Type 0 where
   Base : (access : Access) → Tree
   Join : (outer : Tree) (step : StepKind) → Tree
+  HashJoin : (outer inner : Tree) (edge : ℕ) → Tree
   Sort : (outer : Tree) → Tree
 
 -- a plan and how its rows become the result
@@ -25,7 +26,7 @@ abbrev pub tree : declared.Plan → Tree
 tree (declared.Base access) = Base access
 tree (declared.Loop' pointer outer access) = Join (tree outer) (Loop access)
 tree (declared.Probe' pointer outer place edge) = Join (tree outer) (Probe place edge)
-tree (declared.Hash' pointer outer access edge) = Join (tree outer) (Hash access edge)
+tree (declared.Hash' pointer outer inner_pointer inner edge) = HashJoin (tree outer) (tree inner) edge
 tree (declared.Sort' pointer outer) = Sort (tree outer)
 
 abbrev pub top_tree : top.Top → TopTree
@@ -47,10 +48,10 @@ place_of (Full place column) = place
 abbrev pub place_entering : StepKind → ℕ
 place_entering (Loop access) = place_of access
 place_entering (Probe place edge) = place
-place_entering (Hash access edge) = place_of access
 
 -- the set of a plan's places
 abbrev pub places_of : Tree → ℕ
 places_of (Base access) = one (place_of access)
 places_of (Join outer step) = places_of outer + one (place_entering step)
+places_of (HashJoin outer inner edge) = places_of outer + places_of inner
 places_of (Sort outer) = places_of outer

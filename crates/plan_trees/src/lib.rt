@@ -13,13 +13,13 @@ mod selectivities;
 mod statistics;
 mod validity;
 
-pub use place_sets::{all_places, has_place, one_place, with_place};
+pub use place_sets::{all_places, are_disjoint, has_place, one_place, with_place, with_places};
 pub use plans::{Access, Plan, StepKind, Top, place_read, same};
 pub use printing::print_plan;
 pub use reading::{NESTING_LIMIT, PlanFault, read_plan};
 pub use selectivities::Vector;
 pub use statistics::{Indexed, Stats, Weights};
-pub use validity::{edge_column, is_valid_access, is_valid_step, valid};
+pub use validity::{edge_column, is_valid_access, is_valid_hash_join, is_valid_step, valid};
 
 #[cfg(test)]
 mod tests;

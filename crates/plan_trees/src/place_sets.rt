@@ -1,8 +1,8 @@
 //! Sets of places: a byte in which bit t stands for place t.
 //!
 //! This is the one module that shifts and masks. A statement has at most five places, so a set is below 32.
-ghost use Rattle.std.specs.Prelude.{◌≡◌, ◌<◌, ◌≤◌, ◌+◌, ◌/◌, ◌%◌, ◌^◌, ◌==◌, false};
-ghost use Rattle.plan_trees.specs.PlaceSets.{all_below, has, one};
+ghost use Rattle.std.specs.Prelude.{◌≡◌, ◌<◌, ◌≤◌, ◌+◌, ◌/◌, ◌%◌, ◌^◌, ◌==◌, IsTrue, false};
+ghost use Rattle.plan_trees.specs.PlaceSets.{all_below, are_disjoint as are_disjoint_sets, has, one};
 
 use row_values::PLACE_LIMIT;
 
@@ -38,6 +38,24 @@ pub fn with_place(set: u8, place: u8) -> u8
     ensures small { result < 32 }
 {
     set + one_place(place)
+}
+
+/// Whether no place is in both sets.
+pub fn are_disjoint(left: u8, right: u8) -> bool
+    ensures { result ≡ are_disjoint_sets left right }
+{
+    left & right == 0
+}
+
+/// The set of the places of both.
+pub fn with_places(left: u8, right: u8) -> u8
+    requires left { left < 32 }
+    requires right { right < 32 }
+    requires disjoint { IsTrue (are_disjoint_sets left right) }
+    ensures value { result ≡ left + right }
+    ensures small { result < 32 }
+{
+    left + right
 }
 
 /// The set of the first `count` places.

@@ -16,22 +16,22 @@ pub enum Access {
     Full(u8, u8),
 }
 
-/// How a plan takes in one more place: for each row so far by an access (`Loop`), for each row so far by an
-/// index on the edge's column (`Probe`: place and edge), or by an access and a hash table on the edge (`Hash`).
+/// How a plan takes in one more place: for each row so far by an access (`Loop`), or for each row so far by an
+/// index on the edge's column (`Probe`: place and edge).
 #[derive(Clone, Copy, Debug, PartialEq, Eq)]
 pub enum StepKind {
     Loop(Access),
     Probe(u8, u8),
-    Hash(Access, u8),
 }
 
-/// A tree of joins. The plan inside is the outer side.
+/// A tree of joins. The first plan inside is the outer side. A hash join has an inner plan too, and an edge
+/// between the two.
 #[derive(Debug, Drop)]
 pub enum Plan {
     Base(Access),
     Loop(Rc<Plan>, Access),
     Probe(Rc<Plan>, u8, u8),
-    Hash(Rc<Plan>, Access, u8),
+    Hash(Rc<Plan>, Rc<Plan>, u8),
     Sort(Rc<Plan>),
 }
 
@@ -61,7 +61,6 @@ pub(crate) fn step_place(step: StepKind) -> u8
     match step {
         StepKind::Loop(access) => place_read(access),
         StepKind::Probe(place, _) => place,
-        StepKind::Hash(access, _) => place_read(access),
     }
 }
 
@@ -73,7 +72,9 @@ fn same_plan(a: &Plan, b: &Plan) -> bool
         (Plan::Base(x), Plan::Base(y)) => x == y,
         (Plan::Loop(p, x), Plan::Loop(q, y)) => x == y && same_plan(p, q),
         (Plan::Probe(p, t, e), Plan::Probe(q, u, f)) => t == u && e == f && same_plan(p, q),
-        (Plan::Hash(p, x, e), Plan::Hash(q, y, f)) => x == y && e == f && same_plan(p, q),
+        (Plan::Hash(p, r, e), Plan::Hash(q, s, f)) => {
+            e == f && same_plan(p, q) && same_plan(r, s)
+        }
         (Plan::Sort(p), Plan::Sort(q)) => same_plan(p, q),
         _ => false,
     }

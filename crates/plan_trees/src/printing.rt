@@ -95,11 +95,6 @@ fn push_step(out: &mut String, places: &[Place], step: StepKind) -> Result<(), A
             out.push_str(",")?;
             push_number(out, edge)?;
         }
-        StepKind::Hash(access, edge) => {
-            push_access(out, places, access)?;
-            out.push_str(",")?;
-            push_number(out, edge)?;
-        }
     }
     out.push_str(")")
 }
@@ -121,10 +116,14 @@ fn push_plan(out: &mut String, places: &[Place], p: &Plan) -> Result<(), AllocEr
             push_plan(out, places, outer)?;
             push_step(out, places, StepKind::Probe(*place, *edge))
         }
-        Plan::Hash(outer, access, edge) => {
+        Plan::Hash(outer, inner, edge) => {
             out.push_str("hash(")?;
             push_plan(out, places, outer)?;
-            push_step(out, places, StepKind::Hash(*access, *edge))
+            out.push_str(",")?;
+            push_plan(out, places, inner)?;
+            out.push_str(",")?;
+            push_number(out, *edge)?;
+            out.push_str(")")
         }
         Plan::Sort(outer) => {
             out.push_str("sort(")?;

@@ -2,7 +2,7 @@
 //!
 //! Each piece is read from the front of the text, and what stands behind it is handed on. Names and numbers are
 //! read by comparing the front with what the statement has, so reading takes no memory but for the plan. At most
-//! sixteen plans are nested, which bounds both the depth of the recursion and the number of pieces.
+//! sixteen plans are nested, which bounds the depth of the recursion.
 //! `read_plan` is the one way in.
 ghost use Rattle.std.specs.Prelude.{◌≡◌, ◌<◌, ◌≤◌, ◌+◌, ◌^◌, ◌≢◌, ℕ, List, Err, IfOk, length};
 ghost use Rattle.std.specs.Option.{option_map};
@@ -28,12 +28,11 @@ pub enum PlanFault {
     Memory,
 }
 
-/// The form of a plan over an outer plan.
+/// The form of a plan over one plan.
 #[derive(Clone, Copy, Debug)]
 enum Form {
     Loop,
     Probe,
-    Hash,
     Sort,
 }
 
@@ -226,7 +225,7 @@ fn read_access<'a>(q: &Query, text: &'a [u8]) -> Option<(Access, &'a [u8])>
     None
 }
 
-/// The form of a plan over an outer plan, and the text of that.
+/// The form of a plan over one plan, and the text of that.
 #[tactic(auto, unfolding(crate::specs::Reading::form_at))]
 fn read_form(text: &[u8]) -> Option<(Form, &[u8])>
     ensures { option_map (λ found. (found.0, found.1.now)) result ≡ reads.form_at text.now }
@@ -237,16 +236,13 @@ fn read_form(text: &[u8]) -> Option<(Form, &[u8])>
     if let Some(rest) = after(text, b"probe(") {
         return Some((Form::Probe, rest));
     }
-    if let Some(rest) = after(text, b"hash(") {
-        return Some((Form::Hash, rest));
-    }
     if let Some(rest) = after(text, b"sort(") {
         return Some((Form::Sort, rest));
     }
     None
 }
 
-/// The plan of this form over an outer plan, from the text behind that.
+/// The plan of this form over one plan, from the text behind that.
 #[tactic(auto, unfolding(crate::specs::Reading::closed_at))]
 fn read_closed<'a>(
     q: &Query,
@@ -270,18 +266,27 @@ fn read_closed<'a>(
             let (edge, rest) = read_number(q.edges().len() as u8, rest, b')')?;
             Some((Plan::Probe(outer, place, edge), rest))
         }
-        Form::Hash => {
-            let rest = after_byte(text, b',')?;
-            let (access, rest) = read_access(q, rest)?;
-            let rest = after_byte(rest, b',')?;
-            let (edge, rest) = read_number(q.edges().len() as u8, rest, b')')?;
-            Some((Plan::Hash(outer, access, edge), rest))
-        }
         Form::Sort => {
             let rest = after_byte(text, b')')?;
             Some((Plan::Sort(outer), rest))
         }
     }
+}
+
+/// The hash join of two plans, from the text behind the inner one.
+#[tactic(auto, unfolding(crate::specs::Reading::joined_at))]
+fn read_joined<'a>(
+    q: &Query,
+    outer: Rc<Plan>,
+    inner: Rc<Plan>,
+    text: &'a [u8],
+) -> Option<(Plan, &'a [u8])>
+    ensures { option_map (λ found. (tree found.0, found.1.now)) result
+        ≡ reads.joined_at q.now (tree outer.value) (tree inner.value) text.now }
+{
+    let rest = after_byte(text, b',')?;
+    let (edge, rest) = read_number(q.edges().len() as u8, rest, b')')?;
+    Some((Plan::Hash(outer, inner, edge), rest))
 }
 
 /// The plan that is an access alone.
@@ -323,6 +328,14 @@ fn read_nested<'a>(
 {
     if room == 0 {
         return Err(PlanFault::NotAPlan);
+    }
+    if let Some(inside) = after(text, b"hash(") {
+        let (outer, rest) = read_nested(alloc, q, inside, room - 1)?;
+        let Some(rest) = after_byte(rest, b',') else {
+            return Err(PlanFault::NotAPlan);
+        };
+        let (inner, rest) = read_nested(alloc, q, rest, room - 1)?;
+        return shared(alloc, read_joined(q, outer, inner, rest));
     }
     let Some((form, inside)) = read_form(text) else {
         return shared(alloc, read_base(q, text));

@@ -83,6 +83,10 @@ fn each_form_is_read_and_spelled(rt: HostRuntime) -> Result<(), Fail> {
             "rows(probe(full(a.id),\"order id\",1))",
         ),
         ("a hash join", "rows(hash(seq(\"order id\"),seq(c),2))"),
+        (
+            "a hash join with a join inside",
+            "rows(hash(sort(full(a.day)),hash(seq(\"order id\"),seq(c),2),1))",
+        ),
         ("sorted groups", "sorted_groups(sort(seq(a)))"),
         (
             "hashed groups",
@@ -113,6 +117,8 @@ fn other_texts_are_no_plans(rt: HostRuntime) -> Result<(), Fail> {
         ("a third predicate", "rows(range(a.day,3))"),
         ("a leading zero", "rows(range(a.day,01))"),
         ("a third edge", "rows(hash(seq(a),seq(c),3))"),
+        ("no inner plan", "rows(hash(seq(a),1))"),
+        ("no edge", "rows(hash(seq(a),seq(c)))"),
         ("no top", "seq(a)"),
         ("a space", "rows( seq(a))"),
         ("a byte behind", "rows(seq(a)))"),
@@ -222,6 +228,31 @@ fn one_fault_makes_a_plan_invalid(rt: HostRuntime) -> Result<(), Fail> {
             false,
         ),
         (
+            "a hash join with a join inside",
+            "rows(hash(full(a.day),hash(seq(c),seq(\"order id\"),2),1))",
+            true,
+        ),
+        (
+            "a hash join on an edge inside",
+            "rows(hash(full(a.day),hash(seq(c),seq(\"order id\"),2),2))",
+            false,
+        ),
+        (
+            "a hash join with a place on both sides",
+            "rows(hash(probe(full(a.day),\"order id\",1),hash(seq(\"order id\"),seq(c),2),1))",
+            false,
+        ),
+        (
+            "the order of the inner side",
+            "rows(hash(hash(seq(c),seq(\"order id\"),2),full(a.day),1))",
+            false,
+        ),
+        (
+            "the inner side sorted too",
+            "rows(sort(hash(hash(seq(c),seq(\"order id\"),2),sort(seq(a)),1)))",
+            true,
+        ),
+        (
             "groups without GROUP BY",
             "hash_groups(hash(probe(full(a.day),\"order id\",1),seq(c),2))",
             false,
@@ -243,7 +274,8 @@ fn a_plan_read_is_the_same_as_one_built(rt: HostRuntime) -> Result<(), Fail> {
     let q = statement(alloc)?.ok_or("not sound")?;
     let base = Rc::new(alloc, Plan::Base(Access::Range(0, 2, 0)))?;
     let probe = Rc::new(alloc, Plan::Probe(base, 1, 0))?;
-    let built = Top::Rows(Rc::new(alloc, Plan::Hash(probe, Access::Seq(2), 1))?);
+    let inner = Rc::new(alloc, Plan::Base(Access::Seq(2)))?;
+    let built = Top::Rows(Rc::new(alloc, Plan::Hash(probe, inner, 1))?);
     let cases = [
         (
             "as built",
@@ -253,6 +285,11 @@ fn a_plan_read_is_the_same_as_one_built(rt: HostRuntime) -> Result<(), Fail> {
         (
             "another base",
             "rows(hash(probe(full(a.day),\"order id\",1),seq(c),2))",
+            false,
+        ),
+        (
+            "another inner side",
+            "rows(hash(probe(range(a.day,1),\"order id\",1),seq(a),2))",
             false,
         ),
         (

@@ -7,10 +7,10 @@ ghost use Rattle.std.specs.Option.{option_map};
 ghost use Rattle.plan_trees.specs.Indexes.{has_index};
 ghost use Rattle.row_values.specs.Statements.{IsColumn};
 ghost use Rattle.plan_trees.specs.PlaceSets.{all_below, one};
-ghost use Rattle.plan_trees.specs.PlanSpace.{IsValidAccess, IsValidStep, IsValidPlan, IsValidTop, SuitsStatement, ascending, column_of, column_in, joins_to, has_all_keys, is_grouped, is_only_key, is_sorted_access, is_sorted_plan, wanted_order, wants_order};
+ghost use Rattle.plan_trees.specs.PlanSpace.{IsValidAccess, IsValidHashJoin, IsValidStep, IsValidPlan, IsValidTop, SuitsStatement, ascending, column_of, column_in, joins_sets, joins_to, has_all_keys, is_grouped, is_only_key, is_sorted_access, is_sorted_plan, wanted_order, wants_order};
 ghost use Rattle.plan_trees.specs.Trees.{place_entering, places_of, plan_below, top_tree, tree};
 
-use crate::place_sets::{all_places, has_place, one_place, with_place};
+use crate::place_sets::{all_places, are_disjoint, has_place, one_place, with_place, with_places};
 use crate::plans::{Access, Plan, StepKind, Top, place_read, step_place};
 use crate::statistics::Indexed;
 use row_values::{ColRef, Edge, OrderKey, PLACE_LIMIT, Query};
@@ -83,17 +83,7 @@ pub fn edge_column(place: u8, edge: Edge) -> u8
     }
 }
 
-/// Whether the edge is there and joins a place of the set to this place.
-fn is_joined(q: &Query, set: u8, place: u8, edge: u8) -> bool
-    ensures { IsTrue result ↔ IsSomeAnd (slice_get q.now.edges edge) (λ e. IsTrue (joins_to set place e)) }
-{
-    match q.edges().get(usize::from(edge)) {
-        Some(there) => joins(set, place, *there),
-        None => false,
-    }
-}
-
-/// Whether besides its column of this place has an index.
+/// Whether the edge is there, joins a place of the set to this place, and its column of this place has an index.
 fn is_probed(q: &Query, ix: &Indexed, set: u8, place: u8, edge: u8) -> bool
     ensures { IsTrue result ↔ IsSomeAnd (slice_get q.now.edges edge)
         (λ e. IsTrue (joins_to set place e) × IsTrue (has_index ix.now place (column_in place e))) }
@@ -117,12 +107,33 @@ pub fn is_valid_step(q: &Query, ix: &Indexed, set: u8, step: StepKind) -> bool
                 && !has_place(set, place)
                 && is_probed(q, ix, set, place, edge)
         }
-        StepKind::Hash(access, edge) => {
-            is_valid_access(q, ix, access)
-                && !has_place(set, place_read(access))
-                && is_joined(q, set, place_read(access), edge)
-        }
     }
+}
+
+/// Whether the edge joins a place of the one set to a place of the other.
+fn joins_both(left: u8, right: u8, edge: Edge) -> bool
+    ensures { result ≡ joins_sets left right edge }
+{
+    (has_place(left, edge.left.place) && has_place(right, edge.right.place))
+        || (has_place(left, edge.right.place) && has_place(right, edge.left.place))
+}
+
+/// Whether the edge is there and joins a place of the one set to a place of the other.
+fn is_joined(q: &Query, left: u8, right: u8, edge: u8) -> bool
+    ensures { IsTrue result ↔ IsSomeAnd (slice_get q.now.edges edge)
+        (λ e. IsTrue (joins_sets left right e)) }
+{
+    match q.edges().get(usize::from(edge)) {
+        Some(there) => joins_both(left, right, *there),
+        None => false,
+    }
+}
+
+/// Whether a hash join of plans of these two sets of places is valid on the edge.
+pub fn is_valid_hash_join(q: &Query, left: u8, right: u8, edge: u8) -> bool
+    ensures { IsTrue result ↔ IsValidHashJoin q.now left right edge }
+{
+    are_disjoint(left, right) && is_joined(q, left, right, edge)
 }
 
 /// Whether this column ascending is the one wanted key.
@@ -213,6 +224,20 @@ fn places_after(q: &Query, ix: &Indexed, set: u8, step: StepKind) -> Option<u8>
     }
 }
 
+/// The places after a hash join, if it is valid.
+fn places_joined(q: &Query, left: u8, right: u8, edge: u8) -> Option<u8>
+    requires left { left < 32 }
+    requires right { right < 32 }
+    ensures { MatchOption result (¬ IsValidHashJoin q.now left right edge)
+        (λ both. IsValidHashJoin q.now left right edge × (both ≡ left + right) × (both < 32)) }
+{
+    if is_valid_hash_join(q, left, right, edge) {
+        Some(with_places(left, right))
+    } else {
+        None
+    }
+}
+
 /// The places of the plan, if it is valid.
 fn places_if_valid(q: &Query, ix: &Indexed, p: &Plan) -> Option<u8>
     requires { length q.now.places ≤ PLACE_LIMIT }
@@ -235,9 +260,10 @@ fn places_if_valid(q: &Query, ix: &Indexed, p: &Plan) -> Option<u8>
             let set = places_if_valid(q, ix, outer)?;
             places_after(q, ix, set, StepKind::Probe(*place, *edge))
         }
-        Plan::Hash(outer, access, edge) => {
-            let set = places_if_valid(q, ix, outer)?;
-            places_after(q, ix, set, StepKind::Hash(*access, *edge))
+        Plan::Hash(outer, inner, edge) => {
+            let left = places_if_valid(q, ix, outer)?;
+            let right = places_if_valid(q, ix, inner)?;
+            places_joined(q, left, right, *edge)
         }
         Plan::Sort(outer) => {
             let set = places_if_valid(q, ix, outer)?;
