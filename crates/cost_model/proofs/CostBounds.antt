@@ -8,18 +8,18 @@ use Rattle.row_values.specs.declared.statement.Edge.{Edge}
 use Rattle.plan_trees.specs.declared.plans.Access.{Access}
 use Rattle.plan_trees.specs.declared.plans.Access.TheVariants.{Seq, Range, Full}
 use Rattle.plan_trees.specs.declared.plans.StepKind.{StepKind}
-use Rattle.plan_trees.specs.declared.plans.StepKind.TheVariants.{Loop, Probe, Hash}
+use Rattle.plan_trees.specs.declared.plans.StepKind.TheVariants.{Loop, Probe}
 use Rattle.plan_trees.specs.PlaceSets.{has, one}
 use Rattle.plan_trees.specs.PlanSpace.{IsValidAccess, IsValidStep, IsValidPlan, column_in, is_sorted_access, is_sorted_plan}
 use Rattle.plan_trees.specs.Statistics.{Statistics, IsSoundStats, IsSoundVector, fan_at, selectivity_places}
-use Rattle.plan_trees.specs.Trees.{Tree, Base, Join, Sort, TopTree, Rows, SortedGroups, HashGroups, place_of, place_entering, places_of, plan_below}
+use Rattle.plan_trees.specs.Trees.{Tree, Base, Join, HashJoin, Sort, TopTree, Rows, SortedGroups, HashGroups, place_of, place_entering, places_of, plan_below}
+use Rattle.plan_trees.proofs.PlaceCounts.{place_count, one_more, one_place, both_places, at_most_five}
 use Rattle.plan_trees.proofs.SoundParts.{access_in_range, step_in_range}
 use Rattle.cost_model.specs.Cardinalities.{card_of, kappa, product_over, selected_product, selected_rows, is_inside, distinct_product}
-use Rattle.cost_model.specs.Costs.{digits, rows_met, look_up_cost, access_unit, edge_fan, step_cost, sort_cost, plan_cost, top_cost}
+use Rattle.cost_model.specs.Costs.{digits, rows_met, look_up_cost, access_unit, edge_fan, step_cost, join_cost, sort_cost, plan_cost, top_cost}
 use Rattle.cost_model.specs.Laws.{IsCost, CostsFit}
 use Rattle.cost_model.specs.declared.scale.TheConstants.{COST_SCALE}
 use Rattle.cost_model.proofs.Ceilings.{ceiling_times, ceiling_more, digits_small, digits_few}
-use Rattle.cost_model.proofs.PlaceCounts.{place_count, one_more, one_place, at_most_five}
 use Rattle.cost_model.proofs.Products.{Ones, beside, full_part, in_le, marked_one, one_of_all, part_of_all, part_widths, selected_le, selected_one, selected_powers, powers_widths, rows_widths, whole_part, widths, widths_ones}
 use Rattle.cost_model.proofs.Sets.{entering_new, set_of_plan}
 use Rattle.cost_model.proofs.SoundNumbers.{AreSized, are_sized}
@@ -120,7 +120,7 @@ base_le : (q : Statement) (s : Statistics) (vector : List ℕ) (access : Access)
 unfolding most
 base_le q s vector access k h = let m = access_le q s vector access k h in let n = rows_few q s vector (place_of access) k in omega arith
 
--- Steps.
+-- Steps and hash joins.
 
 scan_le : (c u n k : ℕ) → u ≤ 2000 * n → c * n ≤ k → c * u ≤ 2000 * k
 scan_le c u n k h m =
@@ -141,12 +141,13 @@ step_le q s vector set (Probe t e) k h =
     let m = scan_le _ _ _ most (look_up_le q s vector t (edge_fan q s t e) k (fan_le_by q s vector t (slice_get q.edges e) k h.0)) (card_beside q s vector set t k h.1) in
     let n = weighed s.weights.out _ most k.weights.out.high (card_most q s vector (set + one t) k) in
     omega arith
-step_le q s vector set (Hash access e) k h =
-    let m = base_le q s vector access k h.0 in
-    let x = card_most q s vector set k in
-    let y = card_most q s vector (one (place_of access)) k in
-    let i : s.weights.hash * (card_of q s vector set + card_of q s vector (one (place_of access))) ≤ 1000 * (most + most) = mul-le-mul k.weights.hash.high (omega arith) in
-    let n = weighed s.weights.out _ most k.weights.out.high (card_most q s vector (set + one (place_of access)) k) in
+
+join_le : (q : Statement) (s : Statistics) (vector : List ℕ) (left right : ℕ) → AreSized q s vector → join_cost q s vector left right ≤ 3000 * most
+join_le q s vector left right k =
+    let x = card_most q s vector left k in
+    let y = card_most q s vector right k in
+    let i : s.weights.hash * (card_of q s vector left + card_of q s vector right) ≤ 1000 * (most + most) = mul-le-mul k.weights.hash.high (omega arith) in
+    let n = weighed s.weights.out _ most k.weights.out.high (card_most q s vector (left + right) k) in
     omega arith
 
 sort_le : (q : Statement) (s : Statistics) (vector : List ℕ) (set : ℕ) → AreSized q s vector → sort_cost q s vector set ≤ 64000 * most
@@ -154,7 +155,7 @@ sort_le q s vector set k =
     let i : s.weights.sort * digits (product_over set 0 s.rows) ≤ 1000 * 64 = mul-le-mul k.weights.sort.high (digits_few _) in
     mul-le-mul i (card_most q s vector set k)
 
--- Plans: as much for each place, and once for the sort.
+-- Plans: what four sorts may cost for each place, less one sort, and less another where the order isn't there yet.
 
 below_32 : (count set : ℕ) → count ≤ 5 → set < 2 ^ count → set < 32
 below_32 count set h k = lt_of_lt_of_le k (pow-le-pow_right (omega arith) h)
@@ -168,10 +169,11 @@ unfolding left
 left_le true = omega arith
 left_le false = omega arith
 
-one_place_more : (k x : ℕ) → 64000 * k * (x + 1 + 1) ≡ 64000 * k * (x + 1) + 64000 * k
-one_place_more k x = mul-add (64000 * k) (x + 1) 1 ∙ omega arith
+one_place_more : (k x : ℕ) → 256000 * k * (x + 1) ≡ 256000 * k * x + 256000 * k
+one_place_more k x = mul-add (256000 * k) x 1 ∙ omega arith
 
-bound_plan : (q : Statement) (s : Statistics) (vector : List ℕ) (plan : Tree) → AreSized q s vector → IsValidPlan q s.indexed plan → plan_cost q s vector plan + left (is_sorted_plan q plan) ≤ 64000 * most * (place_count (places_of plan) + 1)
+bound_plan : (q : Statement) (s : Statistics) (vector : List ℕ) (plan : Tree) → AreSized q s vector → IsValidPlan q s.indexed plan
+    → plan_cost q s vector plan + left (is_sorted_plan q plan) + 64000 * most ≤ 256000 * most * place_count (places_of plan)
 unfolding left
 bound_plan q s vector (Base access) k h =
     let m = base_le q s vector access k h in
@@ -187,20 +189,26 @@ bound_plan q s vector (Join outer step) k h =
     let e = one_more (places_of outer) (place_entering step) (below_32 (length q.places) (places_of outer) k.few (set_of_plan q s.indexed outer h.0).there) (omega arith) (entering_new q s.indexed (places_of outer) step h.1) in
     let f = one_place_more most (place_count (places_of outer)) in
     rw e (omega arith)
+bound_plan q s vector (HashJoin outer inner edge) k h =
+    let m = bound_plan q s vector outer k h.0 in
+    let n = bound_plan q s vector inner k h.1 in
+    let j = join_le q s vector (places_of outer) (places_of inner) k in
+    let small = below_32 (length q.places) (places_of outer) k.few (set_of_plan q s.indexed outer h.0).there in
+    let few = below_32 (length q.places) (places_of inner) k.few (set_of_plan q s.indexed inner h.1).there in
+    let e = both_places (places_of outer) (places_of inner) small few h.2.0 in
+    let f = mul-add (256000 * most) (place_count (places_of outer)) (place_count (places_of inner)) in
+    rw e (omega arith)
 bound_plan q s vector (Sort outer) k h =
-    let m : plan_cost q s vector outer + left false ≤ 64000 * most * (place_count (places_of outer) + 1) =
-    subst (λ b. plan_cost q s vector outer + left b ≤ 64000 * most * (place_count (places_of outer) + 1)) h.3 (bound_plan q s vector outer k h.0) in
+    let m : plan_cost q s vector outer + left false + 64000 * most ≤ 256000 * most * place_count (places_of outer) =
+    subst (λ b. plan_cost q s vector outer + left b + 64000 * most ≤ 256000 * most * place_count (places_of outer)) h.3 (bound_plan q s vector outer k h.0) in
     let n = sort_le q s vector (places_of outer) k in
-    let x = left_le (is_sorted_plan q (Sort outer)) in
     let wants : is_sorted_plan q (Sort outer) ≡ true = h.1 in
     rw wants (omega arith)
 
-plan_few : (q : Statement) (s : Statistics) (vector : List ℕ) (plan : Tree) → AreSized q s vector → IsValidPlan q s.indexed plan → plan_cost q s vector plan ≤ 384000 * most
+plan_few : (q : Statement) (s : Statistics) (vector : List ℕ) (plan : Tree) → AreSized q s vector → IsValidPlan q s.indexed plan → plan_cost q s vector plan ≤ 1280000 * most
 plan_few q s vector plan k h =
     let b = bound_plan q s vector plan k h in
-    let five = at_most_five (places_of plan) in
-    let few : place_count (places_of plan) + 1 ≤ 6 = omega arith in
-    let six : 64000 * most * (place_count (places_of plan) + 1) ≤ 64000 * most * 6 = mul-le-mul_left (64000 * most) few in
+    let five : 256000 * most * place_count (places_of plan) ≤ 256000 * most * 5 = mul-le-mul_left (256000 * most) (at_most_five (places_of plan)) in
     omega arith
 
 plan_below_limit : (q : Statement) (s : Statistics) (vector : List ℕ) (plan : Tree) → AreSized q s vector → IsValidPlan q s.indexed plan → plan_cost q s vector plan < 2 ^ 124
@@ -210,6 +218,7 @@ plan_below_limit q s vector plan k h = let m = plan_few q s vector plan k h in o
 plan_some : (q : Statement) (s : Statistics) (vector : List ℕ) (plan : Tree) → AreSized q s vector → IsValidPlan q s.indexed plan → 1 ≤ plan_cost q s vector plan
 plan_some q s vector (Base access) k h = some_times COST_SCALE _ (omega arith) (access_some q s vector access k h)
 plan_some q s vector (Join outer step) k h = let m = plan_some q s vector outer k h.0 in omega arith
+plan_some q s vector (HashJoin outer inner edge) k h = let m = plan_some q s vector outer k h.0 in omega arith
 plan_some q s vector (Sort outer) k h = let m = plan_some q s vector outer k h.0 in omega arith
 
 -- Tops.
@@ -281,6 +290,10 @@ rows_product_few q s vector set k =
 pub step_below_limit : (q : Statement) (s : Statistics) (vector : List ℕ) (set : ℕ) (step : StepKind) → AreSized q s vector → IsValidStep q s.indexed set step → step_cost q s vector set step < 2 ^ 124
 unfolding most
 step_below_limit q s vector set step k h = let m = step_le q s vector set step k h in omega arith
+
+pub join_below_limit : (q : Statement) (s : Statistics) (vector : List ℕ) (left right : ℕ) → AreSized q s vector → join_cost q s vector left right < 2 ^ 124
+unfolding most
+join_below_limit q s vector left right k = let m = join_le q s vector left right k in omega arith
 
 pub sort_below_limit : (q : Statement) (s : Statistics) (vector : List ℕ) (set : ℕ) → AreSized q s vector → sort_cost q s vector set < 2 ^ 124
 unfolding most

@@ -9,14 +9,14 @@ use Rattle.row_values.specs.declared.statement.Pred.{Pred}
 use Rattle.plan_trees.specs.declared.plans.Access.{Access}
 use Rattle.plan_trees.specs.declared.plans.Access.TheVariants.{Seq, Range, Full}
 use Rattle.plan_trees.specs.declared.plans.StepKind.{StepKind}
-use Rattle.plan_trees.specs.declared.plans.StepKind.TheVariants.{Loop, Probe, Hash}
+use Rattle.plan_trees.specs.declared.plans.StepKind.TheVariants.{Loop, Probe}
 use Rattle.plan_trees.specs.PlaceSets.{has}
 use Rattle.plan_trees.specs.PlanSpace.{IsValidAccess, IsValidStep, IsValidPlan, IsValidTop, column_of}
 use Rattle.plan_trees.specs.Statistics.{Statistics, selectivity_places}
-use Rattle.plan_trees.specs.Trees.{Tree, Base, Join, Sort, TopTree, Rows, SortedGroups, HashGroups, place_of, places_of}
+use Rattle.plan_trees.specs.Trees.{Tree, Base, Join, HashJoin, Sort, TopTree, Rows, SortedGroups, HashGroups, place_of, places_of}
 use Rattle.cost_model.specs.Cardinalities.{marked_product, selected_product, kappa, card_of}
 use Rattle.cost_polynomials.specs.Growth.{grown_to, grown_from}
-use Rattle.cost_model.specs.Costs.{digits, rows_met, access_unit, step_cost, plan_cost, top_cost}
+use Rattle.cost_model.specs.Costs.{digits, rows_met, access_unit, step_cost, join_cost, plan_cost, top_cost}
 use Rattle.cost_model.specs.Laws.{GrowsWithin, IsVectorOf}
 use Rattle.cost_model.specs.declared.scale.TheConstants.{COST_SCALE}
 
@@ -202,19 +202,23 @@ grow_scan q s x y set (Range t c j) e v out =
     (λ h. found_within q x y t _ e (found_at q t c j v.2 h))
     (λ h. outside q set t _ out (found_at q t c j v.2 h)))))
 
--- Steps, plans and tops.
+-- Steps, hash joins, plans and tops.
 
 grow_step : (q : Statement) (s : Statistics) (x y : List ℕ) (set : ℕ) (step : StepKind) → AreVectors q x y → IsValidStep q s.indexed set step
     → Grows (grown_from x y) (grown_to x y) (step_cost q s x set step) (step_cost q s y set step)
 grow_step q s x y set (Loop access) e v = grow_sum (grow_scan q s x y set access e v.0 v.1) (grow_times s.weights.out (grow_card q s x y _ e))
 grow_step q s x y set (Probe t edge) e v = grow_sum (grow_times_right _ (grow_card q s x y set e)) (grow_times s.weights.out (grow_card q s x y _ e))
-grow_step q s x y set (Hash access edge) e v =
-    grow_sum (grow_sum (grow_times COST_SCALE (grow_access q s x y access e v.0)) (grow_times s.weights.hash (grow_sum (grow_card q s x y set e) (grow_card q s x y _ e)))) (grow_times s.weights.out (grow_card q s x y _ e))
+
+grow_join : (q : Statement) (s : Statistics) (x y : List ℕ) (left right : ℕ) → AreVectors q x y → Grows (grown_from x y) (grown_to x y) (join_cost q s x left right) (join_cost q s y left right)
+grow_join q s x y left right e =
+    grow_sum (grow_times s.weights.hash (grow_sum (grow_card q s x y left e) (grow_card q s x y right e))) (grow_times s.weights.out (grow_card q s x y (left + right) e))
 
 grow_plan : (q : Statement) (s : Statistics) (x y : List ℕ) (plan : Tree) → AreVectors q x y → IsValidPlan q s.indexed plan
     → Grows (grown_from x y) (grown_to x y) (plan_cost q s x plan) (plan_cost q s y plan)
 grow_plan q s x y (Base access) e v = grow_times COST_SCALE (grow_access q s x y access e v)
 grow_plan q s x y (Join outer step) e v = grow_sum (grow_plan q s x y outer e v.0) (grow_step q s x y (places_of outer) step e v.1)
+grow_plan q s x y (HashJoin outer inner edge) e v =
+    grow_sum (grow_sum (grow_plan q s x y outer e v.0) (grow_plan q s x y inner e v.1)) (grow_join q s x y (places_of outer) (places_of inner) e)
 grow_plan q s x y (Sort outer) e v = grow_sum (grow_plan q s x y outer e v.0) (grow_times _ (grow_card q s x y (places_of outer) e))
 
 grow_top : (q : Statement) (s : Statistics) (x y : List ℕ) (top : TopTree) → AreVectors q x y → IsValidTop q s.indexed top

@@ -1,8 +1,6 @@
--- Valid tops can be searched, since their plans are nested as deep as they have places, and one more for a sort; so
--- there is a least cost.
-use Rattle.std.proofs.Common.{ℕ, zero, suc, ◌≡◌, ◌≤◌, ◌<◌, ◌+◌, ◌^◌, ◌⊎◌, inl, inr, Bool, true, false, List, length, slice_get, Option, Some, None, IsSome, IsSomeAnd, option_and_then, ap, refl, subst, arith, lt_of_lt_of_le}
+-- Valid tops can be searched, since their plans are nested at most ten deep; so there is a least cost.
+use Rattle.std.proofs.Common.{ℕ, zero, suc, ◌≡◌, ◌≤◌, ◌<◌, ◌⊎◌, inl, inr, true, false, List, length, slice_get, Option, Some, None, IsSome, IsSomeAnd, option_and_then, ap, refl, arith}
 use Rattle.std.specs.Option.{option_map, option_map_or}
-use Rattle.std.proofs.Math.Nat.{pow-le-pow_right}
 use Rattle.std.proofs.lemmas.Option.{slice_get_within}
 use Rattle.row_values.specs.Statements.{Statement, IsSoundQuery, IsColumn, kind_at}
 use Rattle.row_values.specs.declared.columns.Column.{Column}
@@ -11,20 +9,20 @@ use Rattle.row_values.specs.declared.statement.Edge.{Edge}
 use Rattle.row_values.specs.declared.statement.Place.{Place}
 use Rattle.row_values.specs.declared.statement.Pred.{Pred}
 use Rattle.plan_trees.specs.Indexes.{has_index}
-use Rattle.plan_trees.specs.PlaceSets.{has, all_below}
-use Rattle.plan_trees.specs.PlanSpace.{IsValidAccess, IsValidStep, IsValidPlan, IsValidTop, SuitsStatement, column_in, column_of, has_all_keys, is_grouped, is_sorted_plan, joins_to, wanted_order, wants_order}
+use Rattle.plan_trees.specs.PlaceSets.{has, all_below, are_disjoint}
+use Rattle.plan_trees.specs.PlanSpace.{IsValidAccess, IsValidStep, IsValidHashJoin, IsValidPlan, IsValidTop, SuitsStatement, column_in, column_of, has_all_keys, is_grouped, is_sorted_plan, joins_sets, joins_to, wanted_order, wants_order}
+use Rattle.plan_trees.specs.Spelling.{nesting}
 use Rattle.plan_trees.specs.Statistics.{Statistics}
-use Rattle.plan_trees.specs.Trees.{Tree, Base, Join, Sort, TopTree, Rows, SortedGroups, HashGroups, place_of, place_entering, places_of, plan_below}
+use Rattle.plan_trees.specs.Trees.{Tree, Base, Join, HashJoin, Sort, TopTree, Rows, SortedGroups, HashGroups, place_of, places_of, plan_below}
 use Rattle.plan_trees.specs.declared.plans.Access.{Access}
 use Rattle.plan_trees.specs.declared.plans.Access.TheVariants.{Seq, Range, Full}
 use Rattle.plan_trees.specs.declared.plans.StepKind.{StepKind}
-use Rattle.plan_trees.specs.declared.plans.StepKind.TheVariants.{Loop, Probe, Hash}
-use Rattle.plan_trees.proofs.SoundParts.{access_in_range, column_in_range, step_in_range}
+use Rattle.plan_trees.specs.declared.plans.StepKind.TheVariants.{Loop, Probe}
+use Rattle.plan_trees.proofs.SoundParts.{column_in_range}
+use Rattle.plan_trees.proofs.ValidPlans.{nested, some_nested}
 use Rattle.cost_model.specs.Costs.{top_cost}
 use Rattle.cost_model.specs.Laws.{HasLeastCost}
-use Rattle.cost_model.proofs.PlaceCounts.{place_count, one_more, one_place, at_most_five}
 use Rattle.cost_model.proofs.Searches.{Decided, Searchable, IsMadeFrom, Outcome, decided_as, decided_both, decided_three, decided_four, decided_implies, decided_bool, decided_less, decided_same, search_among, search_either, search_made, search_none, search_numbers, search_pairs}
-use Rattle.cost_model.proofs.Sets.{entering_new, set_of_plan}
 use Rattle.cost_model.proofs.SomeTop.{some_top}
 
 -- Validity can be decided.
@@ -58,13 +56,16 @@ decided_step q indexed set (Loop access) = decided_both (decided_access q indexe
 decided_step q indexed set (Probe t edge) =
     decided_three (decided_less t (length q.places)) (decided_bool (has set t) false)
     (decided_some_and _ (slice_get q.edges edge) (λ e. decided_both (decided_bool (joins_to set t e) true) (decided_bool (has_index indexed t (column_in t e)) true)))
-decided_step q indexed set (Hash access edge) =
-    decided_three (decided_access q indexed access) (decided_bool (has set (place_of access)) false)
-    (decided_some_and _ (slice_get q.edges edge) (λ e. decided_bool (joins_to set (place_of access) e) true))
+
+decided_hash_join : (q : Statement) (left right edge : ℕ) → Decided (IsValidHashJoin q left right edge)
+decided_hash_join q left right edge =
+    decided_both (decided_bool (are_disjoint left right) true) (decided_some_and _ (slice_get q.edges edge) (λ e. decided_bool (joins_sets left right e) true))
 
 decided_plan : (q : Statement) (indexed : List ℕ) (plan : Tree) → Decided (IsValidPlan q indexed plan)
 decided_plan q indexed (Base access) = decided_access q indexed access
 decided_plan q indexed (Join outer step) = decided_both (decided_plan q indexed outer) (decided_step q indexed (places_of outer) step)
+decided_plan q indexed (HashJoin outer inner edge) =
+    decided_three (decided_plan q indexed outer) (decided_plan q indexed inner) (decided_hash_join q (places_of outer) (places_of inner) edge)
 decided_plan q indexed (Sort outer) =
     decided_four (decided_plan q indexed outer) (decided_bool (wants_order q) true) (decided_bool (has_all_keys (places_of outer) (wanted_order q)) true) (decided_bool (is_sorted_plan q outer) false)
 
@@ -145,106 +146,81 @@ edge_counted_by P edges edge (Some x) e h = slice_get_within edges edge x e
 probe_of : ℕ × ℕ → StepKind
 probe_of p = Probe p.0 p.1
 
-hash_of : Access × ℕ → StepKind
-hash_of p = Hash p.0 p.1
-
 IsSomeStep : Statement → List ℕ → StepKind → Type 0
 IsSomeStep q indexed step =
     IsMadeFrom Access StepKind (IsValidAccess q indexed) Loop step
-    ⊎ (IsMadeFrom (ℕ × ℕ) StepKind (λ p. (p.0 < length q.places) × (p.1 < length q.edges)) probe_of step ⊎ IsMadeFrom (Access × ℕ) StepKind (λ p. IsValidAccess q indexed p.0 × (p.1 < length q.edges)) hash_of step)
+    ⊎ IsMadeFrom (ℕ × ℕ) StepKind (λ p. (p.0 < length q.places) × (p.1 < length q.edges)) probe_of step
 
 some_step : (q : Statement) (indexed : List ℕ) (set : ℕ) (step : StepKind) → IsValidStep q indexed set step → IsSomeStep q indexed step
-unfolding IsSomeStep probe_of hash_of
+unfolding IsSomeStep probe_of
 some_step q indexed set (Loop access) v = inl (access, v.0, refl)
-some_step q indexed set (Probe t edge) v = inr (inl ((t, edge), (v.0, edge_counted_by _ q.edges edge (slice_get q.edges edge) refl v.2), refl))
-some_step q indexed set (Hash access edge) v = inr (inr ((access, edge), (v.0, edge_counted_by _ q.edges edge (slice_get q.edges edge) refl v.2), refl))
+some_step q indexed set (Probe t edge) v = inr ((t, edge), (v.0, edge_counted_by _ q.edges edge (slice_get q.edges edge) refl v.2), refl)
 
 search_steps : (q : Statement) (indexed : List ℕ) (set : ℕ) → Searchable StepKind (IsValidStep q indexed set)
 unfolding IsSomeStep
 search_steps q indexed set =
     search_among StepKind (IsSomeStep q indexed) (IsValidStep q indexed set)
     (search_either StepKind _ _ (search_made Access StepKind _ Loop (search_accesses q indexed))
-    (search_either StepKind _ _ (search_made (ℕ × ℕ) StepKind _ probe_of (search_pairs ℕ ℕ (λ t. t < length q.places) (λ t e. e < length q.edges) (search_numbers (length q.places)) (λ t. search_numbers (length q.edges))))
-    (search_made (Access × ℕ) StepKind _ hash_of (search_pairs Access ℕ (IsValidAccess q indexed) (λ a e. e < length q.edges) (search_accesses q indexed) (λ a. search_numbers (length q.edges))))))
+    (search_made (ℕ × ℕ) StepKind _ probe_of (search_pairs ℕ ℕ (λ t. t < length q.places) (λ t e. e < length q.edges) (search_numbers (length q.places)) (λ t. search_numbers (length q.edges)))))
     (some_step q indexed set) (decided_step q indexed set)
+
+-- Edges of a hash join.
+
+search_edges : (q : Statement) (left right : ℕ) → Searchable ℕ (IsValidHashJoin q left right)
+search_edges q left right =
+    search_among ℕ (λ edge. edge < length q.edges) (IsValidHashJoin q left right) (search_numbers (length q.edges))
+    (λ edge v. edge_counted_by _ q.edges edge (slice_get q.edges edge) refl v.1) (decided_hash_join q left right)
 
 -- Plans of at most so many nested.
 
-height : Tree → ℕ
-height (Base access) = 1
-height (Join outer step) = height outer + 1
-height (Sort outer) = height outer + 1
-
 IsPlanWithin : Statement → List ℕ → ℕ → Tree → Type 0
-IsPlanWithin q indexed most plan = IsValidPlan q indexed plan × (height plan ≤ most)
-
-some_height : (plan : Tree) → 1 ≤ height plan
-unfolding height
-some_height (Base access) = omega arith
-some_height (Join outer step) = omega arith
-some_height (Sort outer) = omega arith
+IsPlanWithin q indexed most plan = IsValidPlan q indexed plan × (nesting plan ≤ most)
 
 join_of : Tree × StepKind → Tree
 join_of p = Join p.0 p.1
 
+hash_join_of : (Tree × Tree) × ℕ → Tree
+hash_join_of p = HashJoin p.0.0 p.0.1 p.1
+
+IsTwoWithin : Statement → List ℕ → ℕ → Tree × Tree → Type 0
+IsTwoWithin q indexed most p = IsPlanWithin q indexed most p.0 × IsPlanWithin q indexed most p.1
+
 IsSomePlan : Statement → List ℕ → ℕ → Tree → Type 0
 IsSomePlan q indexed most plan =
     IsMadeFrom Access Tree (IsValidAccess q indexed) Base plan
-    ⊎ (IsMadeFrom (Tree × StepKind) Tree (λ p. IsPlanWithin q indexed most p.0 × IsValidStep q indexed (places_of p.0) p.1) join_of plan ⊎ IsMadeFrom Tree Tree (IsPlanWithin q indexed most) Sort plan)
+    ⊎ (IsMadeFrom (Tree × StepKind) Tree (λ p. IsPlanWithin q indexed most p.0 × IsValidStep q indexed (places_of p.0) p.1) join_of plan
+    ⊎ (IsMadeFrom ((Tree × Tree) × ℕ) Tree (λ p. IsTwoWithin q indexed most p.0 × IsValidHashJoin q (places_of p.0.0) (places_of p.0.1) p.1) hash_join_of plan
+    ⊎ IsMadeFrom Tree Tree (IsPlanWithin q indexed most) Sort plan))
 
 some_plan : (q : Statement) (indexed : List ℕ) (most : ℕ) (plan : Tree) → IsPlanWithin q indexed (suc most) plan → IsSomePlan q indexed most plan
-unfolding IsSomePlan IsPlanWithin join_of height
+unfolding IsSomePlan IsPlanWithin IsTwoWithin join_of hash_join_of
 some_plan q indexed most (Base access) v = inl (access, v.0, refl)
 some_plan q indexed most (Join outer step) v = let low = v.1 in inr (inl ((outer, step), ((v.0.0, omega arith), v.0.1), refl))
-some_plan q indexed most (Sort outer) v = let low = v.1 in inr (inr (outer, (v.0.0, omega arith), refl))
+some_plan q indexed most (HashJoin outer inner edge) v = let low = v.1 in inr (inr (inl (((outer, inner), edge), (((v.0.0, omega arith), (v.0.1, omega arith)), v.0.2), refl)))
+some_plan q indexed most (Sort outer) v = let low = v.1 in inr (inr (inr (outer, (v.0.0, omega arith), refl)))
+
+search_two : (q : Statement) (indexed : List ℕ) (most : ℕ) → Searchable Tree (IsPlanWithin q indexed most) → Searchable (Tree × Tree) (IsTwoWithin q indexed most)
+unfolding IsTwoWithin
+search_two q indexed most search = search_pairs Tree Tree (IsPlanWithin q indexed most) (λ outer inner. IsPlanWithin q indexed most inner) search (λ outer. search)
 
 less_or_same : (a b : ℕ) → Decided (a < suc b) → Decided (a ≤ b)
 less_or_same a b d = decided_as (λ h. omega arith) (λ h. omega arith) d
 
 search_plans_within : (q : Statement) (indexed : List ℕ) (most : ℕ) → Searchable Tree (IsPlanWithin q indexed most)
 unfolding IsSomePlan IsPlanWithin
-search_plans_within q indexed zero = search_none Tree (IsPlanWithin q indexed zero) (λ plan v. let some = some_height plan in let few = v.1 in omega arith)
+search_plans_within q indexed zero = search_none Tree (IsPlanWithin q indexed zero) (λ plan v. let some = some_nested plan in let few = v.1 in omega arith)
 search_plans_within q indexed (suc most) =
     search_among Tree (IsSomePlan q indexed most) (IsPlanWithin q indexed (suc most))
     (search_either Tree _ _ (search_made Access Tree _ Base (search_accesses q indexed))
     (search_either Tree _ _ (search_made (Tree × StepKind) Tree _ join_of (search_pairs Tree StepKind (IsPlanWithin q indexed most) (λ p step. IsValidStep q indexed (places_of p) step) (search_plans_within q indexed most) (λ p. search_steps q indexed (places_of p))))
-    (search_made Tree Tree _ Sort (search_plans_within q indexed most))))
-    (some_plan q indexed most) (λ plan. decided_both (decided_plan q indexed plan) (less_or_same (height plan) (suc most) (decided_less (height plan) (suc (suc most)))))
-
--- A valid plan nests as many as it has places, and one more where it sorts.
-
-sort_left : Bool → ℕ
-sort_left true = 1
-sort_left false = 0
-
-below_32 : (q : Statement) (set : ℕ) → length q.places ≤ 5 → set < 2 ^ length q.places → set < 32
-below_32 q set h k = lt_of_lt_of_le k (pow-le-pow_right (omega arith) h)
-
-height_by : (q : Statement) (indexed : List ℕ) (plan : Tree) → length q.places ≤ 5 → IsValidPlan q indexed plan → height plan ≤ place_count (places_of plan) + sort_left (is_sorted_plan q plan)
-unfolding height sort_left
-height_by q indexed (Base access) few v =
-    let there = access_in_range q indexed access v in
-    rw (one_place (place_of access) (omega arith)) (omega arith)
-height_by q indexed (Join outer step) few v =
-    let below = height_by q indexed outer few v.0 in
-    let there = step_in_range q indexed (places_of outer) step v.1 in
-    let more = one_more (places_of outer) (place_entering step) (below_32 q (places_of outer) few (set_of_plan q indexed outer v.0).there) (omega arith) (entering_new q indexed (places_of outer) step v.1) in
-    rw more (omega arith)
-height_by q indexed (Sort outer) few v =
-    let below : height outer ≤ place_count (places_of outer) + sort_left false = subst (λ b. height outer ≤ place_count (places_of outer) + sort_left b) v.3 (height_by q indexed outer few v.0) in
-    let wants : is_sorted_plan q (Sort outer) ≡ true = v.1 in
-    rw wants (omega arith)
-
-sort_left_few : (b : Bool) → sort_left b ≤ 1
-unfolding sort_left
-sort_left_few true = omega arith
-sort_left_few false = omega arith
+    (search_either Tree _ _ (search_made ((Tree × Tree) × ℕ) Tree _ hash_join_of (search_pairs (Tree × Tree) ℕ (IsTwoWithin q indexed most) (λ p edge. IsValidHashJoin q (places_of p.0) (places_of p.1) edge) (search_two q indexed most (search_plans_within q indexed most)) (λ p. search_edges q (places_of p.0) (places_of p.1))))
+    (search_made Tree Tree _ Sort (search_plans_within q indexed most)))))
+    (some_plan q indexed most) (λ plan. decided_both (decided_plan q indexed plan) (less_or_same (nesting plan) (suc most) (decided_less (nesting plan) (suc (suc most)))))
 
 search_plans : (q : Statement) (indexed : List ℕ) → length q.places ≤ 5 → Searchable Tree (IsValidPlan q indexed)
 unfolding IsPlanWithin
 search_plans q indexed few =
-    search_among Tree (IsPlanWithin q indexed 6) (IsValidPlan q indexed) (search_plans_within q indexed 6)
-    (λ plan v. (v, let h = height_by q indexed plan few v in let five = at_most_five (places_of plan) in let last = sort_left_few (is_sorted_plan q plan) in omega arith)) (decided_plan q indexed)
+    search_among Tree (IsPlanWithin q indexed 10) (IsValidPlan q indexed) (search_plans_within q indexed 10) (λ plan v. (v, nested q indexed plan few v)) (decided_plan q indexed)
 
 -- Tops.
 

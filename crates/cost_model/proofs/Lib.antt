@@ -5,7 +5,6 @@ pub mod Growth
 pub mod LeastExists
 pub mod LeastGrowth
 pub mod LowerBounds
-pub mod PlaceCounts
 pub mod Products
 pub mod Searches
 pub mod Sets

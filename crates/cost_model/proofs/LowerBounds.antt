@@ -1,15 +1,15 @@
 -- A feasible table is below every valid plan, and a tight table is feasible.
-use Rattle.std.proofs.Common.{ℕ, ◌≡◌, ◌≤◌, ◌+◌, ◌*◌, Bool, true, false, IsTrue, List, Option, Some, None, ap, sym, refl, subst, arith, true≢false, le_trans}
+use Rattle.std.proofs.Common.{ℕ, ◌≡◌, ◌≤◌, ◌+◌, ◌*◌, Bool, true, false, IsTrue, List, Option, Some, None, ap, sym, refl, subst, subst₂, arith, true≢false, le_trans}
 use Rattle.row_values.specs.Statements.{Statement}
 use Rattle.plan_trees.specs.declared.plans.StepKind.{StepKind}
 use Rattle.plan_trees.specs.PlaceSets.{one}
-use Rattle.plan_trees.specs.PlanSpace.{IsValidStep, IsValidPlan, IsValidTop, IsSortedPlan, has_all_keys, is_sorted_plan, wanted_order, wants_order}
+use Rattle.plan_trees.specs.PlanSpace.{IsValidStep, IsValidHashJoin, IsValidPlan, IsValidTop, IsSortedPlan, has_all_keys, is_sorted_plan, wanted_order, wants_order}
 use Rattle.plan_trees.specs.Statistics.{Statistics}
-use Rattle.plan_trees.specs.Trees.{Tree, Base, Join, Sort, TopTree, Rows, SortedGroups, HashGroups, place_of, place_entering, places_of, plan_below}
+use Rattle.plan_trees.specs.Trees.{Tree, Base, Join, HashJoin, Sort, TopTree, Rows, SortedGroups, HashGroups, place_of, place_entering, places_of, plan_below}
 use Rattle.cost_model.specs.Cardinalities.{card_of}
-use Rattle.cost_model.specs.Costs.{step_cost, sort_cost, plan_cost, top_cost}
+use Rattle.cost_model.specs.Costs.{step_cost, join_cost, sort_cost, plan_cost, top_cost}
 use Rattle.cost_model.specs.LeastCost.{Table, AtMost, IsPlaceSet, IsPlanOf, IsTightCell, IsTight, IsFeasible, FitsTable, whole_set}
-use Rattle.cost_model.proofs.Sets.{set_of_access, set_after, set_of_plan}
+use Rattle.cost_model.proofs.Sets.{set_of_access, set_after, set_of_both, set_of_plan}
 
 at_most_more : (o : Option ℕ) (m n : ℕ) → AtMost o m → m ≤ n → AtMost o n
 at_most_more None m n h k = h
@@ -24,6 +24,8 @@ below_plan : {q : Statement} {s : Statistics} {vector : List ℕ} {table : Table
     → (IsTrue sorted → IsSortedPlan q plan) → AtMost (table sorted (places_of plan)) (plan_cost q s vector plan)
 below_plan sorted (Base access) f v e = f.access sorted access v e
 below_plan {q} {s} sorted (Join outer step) f v e = f.step sorted (places_of outer) _ step (set_of_plan q s.indexed outer v.0) v.1 (below_plan sorted outer f v.0 e)
+below_plan {q} {s} sorted (HashJoin outer inner edge) f v e =
+    f.hash_join sorted (places_of outer) (places_of inner) edge _ _ (set_of_plan q s.indexed outer v.0) (set_of_plan q s.indexed inner v.1) v.2 (below_plan sorted outer f v.0 e) (below_plan false inner f v.1 not_sorted)
 below_plan {q} {s} true (Sort outer) f v e = f.sort (places_of outer) _ (set_of_plan q s.indexed outer v.0) v.1 v.2 (below_plan false outer f v.0 not_sorted)
 below_plan {table = table} false (Sort outer) f v e = at_most_more (table false (places_of outer)) _ _ (below_plan false outer f v.0 not_sorted) (omega arith)
 
@@ -75,6 +77,28 @@ tight_step q s vector table least t sorted set cost step p v h =
     (not_above q s vector sorted after (table sorted after) (Join from.plan step) (t.cells sorted after (set_after q s.indexed set step p v)) (stepped q s sorted set step from.plan from.fits v))
     (step_from q s vector step (places_of from.plan) set (plan_cost q s vector from.plan) cost from.fits.whole from.within)
 
+joined : (q : Statement) (s : Statistics) (sorted : Bool) (left right edge : ℕ) (outer inner : Tree) → IsPlanOf q s sorted left outer → IsPlanOf q s false right inner → IsValidHashJoin q left right edge
+    → IsPlanOf q s sorted (left + right) (HashJoin outer inner edge)
+joined q s sorted left right edge outer inner h k v = record {
+  valid = (h.valid, k.valid, subst₂ (λ a b. IsValidHashJoin q a b edge) (sym h.whole) (sym k.whole) v);
+  whole = let a = h.whole in let b = k.whole in omega arith;
+  in_order = h.in_order;
+}
+
+join_from : (q : Statement) (s : Statistics) (vector : List ℕ) (first second left right below inside outer_cost inner_cost : ℕ) → first ≡ left → second ≡ right → below ≤ outer_cost → inside ≤ inner_cost
+    → below + inside + join_cost q s vector first second ≤ outer_cost + inner_cost + join_cost q s vector left right
+join_from q s vector first second left right below inside outer_cost inner_cost e f h k = rw (e, f) (omega arith)
+
+tight_join : (q : Statement) (s : Statistics) (vector : List ℕ) (table : Table) (least : ℕ) → IsTight q s vector table least → (sorted : Bool) (left right edge outer_cost inner_cost : ℕ) → IsPlaceSet q left → IsPlaceSet q right
+    → IsValidHashJoin q left right edge → AtMost (table sorted left) outer_cost → AtMost (table false right) inner_cost → AtMost (table sorted (left + right)) (outer_cost + inner_cost + join_cost q s vector left right)
+tight_join q s vector table least t sorted left right edge outer_cost inner_cost p r v h k =
+    let outer = reached q s vector sorted left outer_cost (table sorted left) (t.cells sorted left p) h in
+    let inner = reached q s vector false right inner_cost (table false right) (t.cells false right r) k in
+    let both = left + right in
+    at_most_more (table sorted both) _ _
+    (not_above q s vector sorted both (table sorted both) (HashJoin outer.plan inner.plan edge) (t.cells sorted both (set_of_both q left right edge p r v)) (joined q s sorted left right edge outer.plan inner.plan outer.fits inner.fits v))
+    (join_from q s vector (places_of outer.plan) (places_of inner.plan) left right (plan_cost q s vector outer.plan) (plan_cost q s vector inner.plan) outer_cost inner_cost outer.fits.whole inner.fits.whole outer.within inner.within)
+
 -- a plan of the set becomes a sorted one, by a sort if it isn't one already
 sorted_by : (q : Statement) (s : Statistics) (vector : List ℕ) (set cost : ℕ) (cell : Option ℕ) (plan : Tree) (b : Bool) → IsTightCell q s vector true set cell → IsPlanOf q s false set plan → plan_cost q s vector plan ≤ cost
     → IsTrue (wants_order q) → IsTrue (has_all_keys set (wanted_order q)) → is_sorted_plan q plan ≡ b → AtMost cell (cost + sort_cost q s vector set)
@@ -99,6 +123,7 @@ tight_feasible : (q : Statement) (s : Statistics) (vector : List ℕ) (table : T
 tight_feasible q s vector table least t = record {
   access = λ sorted access v e. not_above q s vector sorted (one (place_of access)) (table sorted (one (place_of access))) (Base access) (t.cells sorted _ (set_of_access q s.indexed access v)) (record { valid = v; whole = refl; in_order = e });
   step = λ sorted set cost step p v h. tight_step q s vector table least t sorted set cost step p v h;
+  hash_join = λ sorted left right edge outer_cost inner_cost p r v h k. tight_join q s vector table least t sorted left right edge outer_cost inner_cost p r v h k;
   sort = λ set cost p wants keys h. tight_sort q s vector table least t set cost p wants keys h;
 }
 

@@ -7,10 +7,11 @@ use Rattle.std.proofs.lemmas.Nat.Bits.{and_pow}
 use Rattle.row_values.specs.Statements.{Statement}
 use Rattle.plan_trees.specs.declared.plans.Access.{Access}
 use Rattle.plan_trees.specs.declared.plans.StepKind.{StepKind}
-use Rattle.plan_trees.specs.declared.plans.StepKind.TheVariants.{Loop, Probe, Hash}
+use Rattle.plan_trees.specs.declared.plans.StepKind.TheVariants.{Loop, Probe}
 use Rattle.plan_trees.specs.PlaceSets.{has, one}
-use Rattle.plan_trees.specs.PlanSpace.{IsValidAccess, IsValidStep, IsValidPlan}
-use Rattle.plan_trees.specs.Trees.{Tree, Base, Join, Sort, place_of, place_entering, places_of}
+use Rattle.plan_trees.specs.PlanSpace.{IsValidAccess, IsValidStep, IsValidHashJoin, IsValidPlan}
+use Rattle.plan_trees.specs.Trees.{Tree, Base, Join, HashJoin, Sort, place_of, place_entering, places_of}
+use Rattle.plan_trees.proofs.Bits.{both_below}
 use Rattle.plan_trees.proofs.SoundParts.{access_in_range, step_in_range}
 use Rattle.cost_model.specs.LeastCost.{IsPlaceSet}
 
@@ -27,7 +28,6 @@ stays_below set place count h k l =
 pub entering_new : (q : Statement) (indexed : List ℕ) (set : ℕ) (step : StepKind) → IsValidStep q indexed set step → has set (place_entering step) ≡ false
 entering_new q indexed set (Loop access) valid = valid.1
 entering_new q indexed set (Probe place edge) valid = valid.1
-entering_new q indexed set (Hash access edge) valid = valid.1
 
 pub set_of_access : (q : Statement) (indexed : List ℕ) (access : Access) → IsValidAccess q indexed access → IsPlaceSet q (one (place_of access))
 set_of_access q indexed access valid = record { some = pow_pos (place_of access); there = pow-lt (access_in_range q indexed access valid) }
@@ -38,7 +38,14 @@ set_after q indexed set step h valid = record {
   there = stays_below set (place_entering step) (length q.places) (entering_new q indexed set step valid) h.there (step_in_range q indexed set step valid);
 }
 
+pub set_of_both : (q : Statement) (left right edge : ℕ) → IsPlaceSet q left → IsPlaceSet q right → IsValidHashJoin q left right edge → IsPlaceSet q (left + right)
+set_of_both q left right edge h k valid = record {
+  some = let a = h.some in omega arith;
+  there = both_below left right (length q.places) valid.0 h.there k.there;
+}
+
 pub set_of_plan : (q : Statement) (indexed : List ℕ) (plan : Tree) → IsValidPlan q indexed plan → IsPlaceSet q (places_of plan)
 set_of_plan q indexed (Base access) valid = set_of_access q indexed access valid
 set_of_plan q indexed (Join outer step) valid = set_after q indexed (places_of outer) step (set_of_plan q indexed outer valid.0) valid.1
+set_of_plan q indexed (HashJoin outer inner edge) valid = set_of_both q (places_of outer) (places_of inner) edge (set_of_plan q indexed outer valid.0) (set_of_plan q indexed inner valid.1) valid.2
 set_of_plan q indexed (Sort outer) valid = set_of_plan q indexed outer valid.0

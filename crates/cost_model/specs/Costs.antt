@@ -5,11 +5,11 @@ use Rattle.row_values.specs.Statements.{Statement, is_parameterised, selectivity
 use Rattle.plan_trees.specs.declared.plans.Access.{Access}
 use Rattle.plan_trees.specs.declared.plans.Access.TheVariants.{Seq, Range, Full}
 use Rattle.plan_trees.specs.declared.plans.StepKind.{StepKind}
-use Rattle.plan_trees.specs.declared.plans.StepKind.TheVariants.{Loop, Probe, Hash}
+use Rattle.plan_trees.specs.declared.plans.StepKind.TheVariants.{Loop, Probe}
 use Rattle.plan_trees.specs.PlaceSets.{one}
 use Rattle.plan_trees.specs.PlanSpace.{column_in}
 use Rattle.plan_trees.specs.Statistics.{Statistics, fan_at}
-use Rattle.plan_trees.specs.Trees.{Tree, Base, Join, Sort, TopTree, Rows, SortedGroups, HashGroups, place_of, places_of}
+use Rattle.plan_trees.specs.Trees.{Tree, Base, Join, HashJoin, Sort, TopTree, Rows, SortedGroups, HashGroups, place_of, places_of}
 use Rattle.cost_model.specs.Cardinalities.{card_of, product_over}
 use Rattle.cost_model.specs.declared.scale.TheConstants.{COST_SCALE}
 
@@ -54,10 +54,12 @@ step_cost q s vector set (Loop access) =
 step_cost q s vector set (Probe place edge) =
     card_of q s vector set * look_up_cost s place (edge_fan q s place edge)
     + s.weights.out * card_of q s vector (set + one place)
-step_cost q s vector set (Hash access edge) =
-    COST_SCALE * access_unit q s vector access
-    + s.weights.hash * (card_of q s vector set + card_of q s vector (one (place_of access)))
-    + s.weights.out * card_of q s vector (set + one (place_of access))
+
+-- what a hash join adds to its two sides, of these sets of places: a table over both, and the rows that come out
+abbrev pub join_cost : Statement → Statistics → List ℕ → ℕ → ℕ → ℕ
+join_cost q s vector left right =
+    s.weights.hash * (card_of q s vector left + card_of q s vector right)
+    + s.weights.out * card_of q s vector (left + right)
 
 -- what a sort adds: as many comparisons for a row as the product of the set's tables has digits
 abbrev pub sort_cost : Statement → Statistics → List ℕ → ℕ → ℕ
@@ -68,6 +70,8 @@ sort_cost q s vector set = s.weights.sort * digits (product_over set 0 s.rows) *
 abbrev pub plan_cost : Statement → Statistics → List ℕ → Tree → ℕ
 plan_cost q s vector (Base access) = COST_SCALE * access_unit q s vector access
 plan_cost q s vector (Join outer step) = plan_cost q s vector outer + step_cost q s vector (places_of outer) step
+plan_cost q s vector (HashJoin outer inner edge) =
+    plan_cost q s vector outer + plan_cost q s vector inner + join_cost q s vector (places_of outer) (places_of inner)
 plan_cost q s vector (Sort outer) = plan_cost q s vector outer + sort_cost q s vector (places_of outer)
 
 abbrev pub top_cost : Statement → Statistics → List ℕ → TopTree → ℕ

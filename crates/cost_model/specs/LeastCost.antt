@@ -4,11 +4,11 @@ use Rattle.row_values.specs.Statements.{Statement}
 use Rattle.plan_trees.specs.declared.plans.Access.{Access}
 use Rattle.plan_trees.specs.declared.plans.StepKind.{StepKind}
 use Rattle.plan_trees.specs.PlaceSets.{one, all_below}
-use Rattle.plan_trees.specs.PlanSpace.{IsValidAccess, IsValidStep, IsValidPlan, IsValidTop, IsSortedPlan, has_all_keys, is_grouped, is_sorted_access, wanted_order, wants_order}
+use Rattle.plan_trees.specs.PlanSpace.{IsValidAccess, IsValidStep, IsValidHashJoin, IsValidPlan, IsValidTop, IsSortedPlan, has_all_keys, is_grouped, is_sorted_access, wanted_order, wants_order}
 use Rattle.plan_trees.specs.Statistics.{Statistics}
 use Rattle.plan_trees.specs.Trees.{Tree, TopTree, place_of, place_entering, places_of}
 use Rattle.cost_model.specs.Cardinalities.{card_of}
-use Rattle.cost_model.specs.Costs.{access_unit, step_cost, sort_cost, plan_cost, top_cost}
+use Rattle.cost_model.specs.Costs.{access_unit, step_cost, join_cost, sort_cost, plan_cost, top_cost}
 use Rattle.cost_model.specs.declared.scale.TheConstants.{COST_SCALE}
 
 -- a valid top that costs this
@@ -63,12 +63,15 @@ pub record IsTight (q : Statement) (s : Statistics) (vector : List ℕ) (table :
 
 -- Feasible tables.
 
--- no cell is above what one more access, step or sort costs over the cell below it
+-- no cell is above what one more access, step, hash join or sort costs over the cells below it
 pub record IsFeasible (q : Statement) (s : Statistics) (vector : List ℕ) (table : Table) : Type 0 where
   pub access : (sorted : Bool) (access : Access) → IsValidAccess q s.indexed access → (IsTrue sorted → IsTrue (is_sorted_access q access))
       → AtMost (table sorted (one (place_of access))) (COST_SCALE * access_unit q s vector access)
   pub step : (sorted : Bool) (set cost : ℕ) (step : StepKind) → IsPlaceSet q set → IsValidStep q s.indexed set step → AtMost (table sorted set) cost
       → AtMost (table sorted (set + one (place_entering step))) (cost + step_cost q s vector set step)
+  pub hash_join : (sorted : Bool) (left right edge outer_cost inner_cost : ℕ) → IsPlaceSet q left → IsPlaceSet q right → IsValidHashJoin q left right edge
+      → AtMost (table sorted left) outer_cost → AtMost (table false right) inner_cost
+      → AtMost (table sorted (left + right)) (outer_cost + inner_cost + join_cost q s vector left right)
   pub sort : (set cost : ℕ) → IsPlaceSet q set → IsTrue (wants_order q) → IsTrue (has_all_keys set (wanted_order q)) → AtMost (table false set) cost
       → AtMost (table true set) (cost + sort_cost q s vector set)
 
