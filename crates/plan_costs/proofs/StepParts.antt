@@ -10,7 +10,7 @@ use Rattle.row_values.specs.declared.statement.Edge.{Edge}
 use Rattle.row_values.specs.declared.statement.Place.{Place}
 use Rattle.row_values.specs.declared.statement.Pred.{Pred}
 use Rattle.plan_trees.specs.declared.plans.Access.{Access}
-use Rattle.plan_trees.specs.declared.plans.StepKind.TheVariants.{Loop, Probe, Hash}
+use Rattle.plan_trees.specs.declared.plans.StepKind.TheVariants.{Loop, Probe}
 use Rattle.plan_trees.specs.Indexes.{has_index}
 use Rattle.plan_trees.specs.PlaceSets.{has, one}
 use Rattle.plan_trees.specs.PlanSpace.{IsValidStep, column_in, column_of, joins_to}
@@ -18,8 +18,7 @@ use Rattle.plan_trees.specs.Statistics.{Statistics, IsSoundStats, IsSoundVector}
 use Rattle.plan_trees.specs.Trees.{place_of}
 use Rattle.cost_model.specs.Cardinalities.{card_of}
 use Rattle.cost_model.specs.Costs.{access_unit, edge_fan, look_up_cost}
-use Rattle.cost_model.specs.declared.scale.TheConstants.{COST_SCALE}
-use Rattle.cost_model.proofs.CostBounds.{step_below_limit}
+use Rattle.cost_model.proofs.CostBounds.{join_below_limit, step_below_limit}
 use Rattle.cost_model.proofs.Growth.{selectivity_of}
 use Rattle.cost_model.proofs.SoundNumbers.{are_sized}
 
@@ -68,7 +67,7 @@ fan_column q s set place edge h k valid e there =
     let joined = subst (λ o. IsSomeAnd o (λ e. IsTrue (joins_to set place e) × IsTrue (has_index s.indexed place (column_in place e)))) there valid.2 in
     fan_there q s place (column_in place e) k (end_there_by (e.right.place == place) q set place e sound joined.0 refl)
 
--- The forms of steps.
+-- The forms of steps, and hash joins.
 
 pub loop_fits : (q : Statement) (s : Statistics) (vector : List ℕ) (set card unit place out : ℕ) (access : Access) → IsSoundQuery q → IsSoundStats q s → IsSoundVector q s vector → IsValidStep q s.indexed set (Loop access)
     → card ≡ card_of q s vector set → unit ≡ access_unit q s vector access → place ≡ place_of access → out ≡ s.weights.out * card_of q s vector (set + one place) → card * unit + out < 2 ^ 124
@@ -78,11 +77,9 @@ pub probe_fits : (q : Statement) (s : Statistics) (vector : List ℕ) (set card 
     → card ≡ card_of q s vector set → look_up ≡ look_up_cost s place found → found ≡ edge_fan q s place edge → out ≡ s.weights.out * card_of q s vector (set + one place) → card * look_up + out < 2 ^ 124
 probe_fits q s vector set card place edge look_up found out h k v valid a b c d = rw (a, b, d, c) (step_below_limit q s vector set (Probe place edge) (are_sized q s vector h k v) valid)
 
-pub hash_fits : (q : Statement) (s : Statistics) (vector : List ℕ) (set card other alone unit place weight out edge : ℕ) (access : Access) → IsSoundQuery q → IsSoundStats q s → IsSoundVector q s vector → IsValidStep q s.indexed set (Hash access edge)
-    → card ≡ card_of q s vector set → other ≡ card_of q s vector alone → alone ≡ one place → unit ≡ access_unit q s vector access → place ≡ place_of access → weight ≡ s.weights.hash → out ≡ s.weights.out * card_of q s vector (set + one place)
-    → COST_SCALE * unit + weight * (card + other) + out < 2 ^ 124
-hash_fits q s vector set card other alone unit place weight out edge access h k v valid a b c d e f g =
-    rw (a, b, d, f, g, c, e) (step_below_limit q s vector set (Hash access edge) (are_sized q s vector h k v) valid)
+pub join_fits : (q : Statement) (s : Statistics) (vector : List ℕ) (left right first second weight out : ℕ) → IsSoundQuery q → IsSoundStats q s → IsSoundVector q s vector
+    → first ≡ card_of q s vector left → second ≡ card_of q s vector right → weight ≡ s.weights.hash → out ≡ s.weights.out * card_of q s vector (left + right) → weight * (first + second) + out < 2 ^ 124
+join_fits q s vector left right first second weight out h k v a b c d = rw (a, b, c, d) (join_below_limit q s vector left right (are_sized q s vector h k v))
 
 -- The place that enters.
 

@@ -11,7 +11,7 @@ mod steps;
 pub use accesses::access_unit;
 pub use cardinalities::card;
 pub use sorts::sort_cost;
-pub use steps::step_cost;
+pub use steps::{join_cost, step_cost};
 
 #[cfg(test)]
 mod tests;

@@ -1,20 +1,20 @@
-//! What a step adds to the cost of the plan below it.
+//! What a step adds to the cost of the plan below it, and a hash join to that of the plans on its two sides.
 //!
-//! Each form of step is a function. All of them count what comes out of the step, by `out_cost`.
-ghost use Rattle.std.specs.Prelude.{◌≡◌, ◌<◌, ◌+◌, ◌*◌, ◌^◌, [], false, Some, length, slice_get, slice_index_or};
+//! Each form is a function. All of them count what comes out, by `out_cost`.
+ghost use Rattle.std.specs.Prelude.{◌≡◌, ◌<◌, ◌+◌, ◌*◌, ◌^◌, [], IsTrue, false, Some, length, slice_get, slice_index_or};
 ghost use Rattle.row_values.specs.Statements.{IsSoundQuery};
 ghost use Rattle.row_values.specs.declared.statement.Edge.{Edge as AnEdge};
-ghost use Rattle.plan_trees.specs.PlaceSets.{has, one};
+ghost use Rattle.plan_trees.specs.PlaceSets.{are_disjoint, has, one};
 ghost use Rattle.plan_trees.specs.PlanSpace.{IsValidStep, column_in};
 ghost use Rattle.plan_trees.specs.Statistics.{IsSoundStats, IsSoundVector};
 ghost use Rattle.plan_trees.specs.declared.plans.StepKind.TheVariants as step;
 ghost use Rattle.cost_model.specs.Cardinalities.{card_of};
 ghost use Rattle.cost_model.specs.Costs as costs;
+ghost use Rattle.cost_model.specs.LeastCost.{IsPlaceSet};
 
 use crate::accesses::{access_unit, look_up_cost};
 use crate::cardinalities::card;
-use cost_model::COST_SCALE;
-use plan_trees::{Access, Stats, StepKind, edge_column, one_place, place_read, with_place};
+use plan_trees::{Access, Stats, StepKind, edge_column, place_read, with_place, with_places};
 use row_values::Query;
 
 /// The rows for each value of the place's column in the edge.
@@ -30,8 +30,19 @@ fn edge_fan(q: &Query, stats: &Stats, place: u8, edge: u8) -> u64
     }
 }
 
+/// What the rows that come out cost, where they are those of this set of places.
+fn out_cost(q: &Query, stats: &Stats, set: u8, s: &[u64]) -> u128
+    requires query { IsSoundQuery q.now }
+    requires sound { IsSoundStats q.now stats.now }
+    requires vector { IsSoundVector q.now stats.now s.now }
+    requires there { set < 2 ^ length q.now.places }
+    ensures { result ≡ stats.now.weights.out * card_of q.now stats.now s.now set }
+{
+    u128::from(stats.weights().out) * card(q, stats, set, s)
+}
+
 /// What the rows that come out of a step cost.
-fn out_cost(q: &Query, stats: &Stats, set: u8, place: u8, s: &[u64]) -> u128
+fn step_out_cost(q: &Query, stats: &Stats, set: u8, place: u8, s: &[u64]) -> u128
     requires query { IsSoundQuery q.now }
     requires sound { IsSoundStats q.now stats.now }
     requires vector { IsSoundVector q.now stats.now s.now }
@@ -40,7 +51,7 @@ fn out_cost(q: &Query, stats: &Stats, set: u8, place: u8, s: &[u64]) -> u128
     requires absent { has set place ≡ false }
     ensures { result ≡ stats.now.weights.out * card_of q.now stats.now s.now (set + one place) }
 {
-    u128::from(stats.weights().out) * card(q, stats, with_place(set, place), s)
+    out_cost(q, stats, with_place(set, place), s)
 }
 
 /// What a nested loop adds: a run of the access for each row so far.
@@ -53,7 +64,7 @@ fn loop_cost(q: &Query, stats: &Stats, set: u8, access: Access, s: &[u64]) -> u1
     ensures { result ≡ costs.step_cost q.now stats.now s.now set (step.Loop access) }
 {
     let runs = card(q, stats, set, s) * access_unit(q, stats, &access, s);
-    runs + out_cost(q, stats, set, place_read(access), s)
+    runs + step_out_cost(q, stats, set, place_read(access), s)
 }
 
 /// What an index nested loop adds: a look-up for each row so far.
@@ -67,23 +78,7 @@ fn probe_cost(q: &Query, stats: &Stats, set: u8, place: u8, edge: u8, s: &[u64])
 {
     let look_up = look_up_cost(stats, place, edge_fan(q, stats, place, edge));
     let look_ups = card(q, stats, set, s) * look_up;
-    look_ups + out_cost(q, stats, set, place, s)
-}
-
-/// What a hash join adds: one run of the access, and the table over both sides.
-fn hash_cost(q: &Query, stats: &Stats, set: u8, access: Access, edge: u8, s: &[u64]) -> u128
-    requires query { IsSoundQuery q.now }
-    requires sound { IsSoundStats q.now stats.now }
-    requires vector { IsSoundVector q.now stats.now s.now }
-    requires there { set < 2 ^ length q.now.places }
-    requires valid { IsValidStep q.now stats.now.indexed set (step.Hash access edge) }
-    ensures { result ≡ costs.step_cost q.now stats.now s.now set (step.Hash access edge) }
-{
-    let place = place_read(access);
-    let read = COST_SCALE * access_unit(q, stats, &access, s);
-    let both = card(q, stats, set, s) + card(q, stats, one_place(place), s);
-    let hashed = u128::from(stats.weights().hash) * both;
-    read + hashed + out_cost(q, stats, set, place, s)
+    look_ups + step_out_cost(q, stats, set, place, s)
 }
 
 /// What the step adds to the cost of a plan of these places, on the cost scale.
@@ -99,6 +94,21 @@ pub fn step_cost(q: &Query, stats: &Stats, set: u8, step: &StepKind, s: &[u64]) 
     match *step {
         StepKind::Loop(access) => loop_cost(q, stats, set, access, s),
         StepKind::Probe(place, edge) => probe_cost(q, stats, set, place, edge, s),
-        StepKind::Hash(access, edge) => hash_cost(q, stats, set, access, edge, s),
     }
+}
+
+/// What a hash join adds to the costs of its two sides, on the cost scale: a table over both, and what comes out.
+pub fn join_cost(q: &Query, stats: &Stats, left: u8, right: u8, s: &[u64]) -> u128
+    requires sound { IsSoundStats q.now stats.now }
+    requires vector { IsSoundVector q.now stats.now s.now }
+    requires left { IsPlaceSet q.now left }
+    requires right { IsPlaceSet q.now right }
+    requires disjoint { IsTrue (are_disjoint left right) }
+    ensures value { result ≡ costs.join_cost q.now stats.now s.now left right }
+{
+    // That every statement is sound, its readers pass on: so it is read here once.
+    let _ = q.places();
+    let both = card(q, stats, left, s) + card(q, stats, right, s);
+    let hashed = u128::from(stats.weights().hash) * both;
+    hashed + out_cost(q, stats, with_places(left, right), s)
 }

@@ -7,9 +7,11 @@ ghost use Rattle.std.specs.Prelude.{ℕ, ◌≡◌, ◌≤◌, [], ◌∷◌, If
 ghost use Rattle.plan_trees.specs.Statistics.{IsSoundStats, IsSoundVector};
 
 use crate::cardinalities::is_parameterised;
-use crate::{access_unit, card, sort_cost, step_cost};
+use crate::{access_unit, card, join_cost, sort_cost, step_cost};
 use cost_model::COST_SCALE;
-use plan_trees::{Access, Indexed, Stats, StepKind, Weights, is_valid_access, is_valid_step};
+use plan_trees::{
+    Access, Indexed, Stats, StepKind, Weights, are_disjoint, is_valid_access, is_valid_step,
+};
 use row_values::{
     ColRef, Column, Edge, Item, Kind, Operand, Place, Pred, Query, Schema, Test, Words,
 };
@@ -265,18 +267,46 @@ fn each_step_over_three_tables(rt: HostRuntime) -> Result<(), Fail> {
             StepKind::Probe(1, 2),
             Some(208 * COST_SCALE + COST_SCALE / 64),
         ),
-        // 1024 rows are read, 1032 hashed, and 8 come out.
-        (
-            "a hash join",
-            a,
-            StepKind::Hash(Access::Seq(1), 0),
-            Some(3096 * COST_SCALE),
-        ),
         ("a probe without an index", a, StepKind::Probe(1, 0), None),
         ("a place that is in", ac, StepKind::Probe(2, 1), None),
     ];
     for (what, set, step, want) in cases {
         assert_eq!(rt; step_over(&q, &stats, set, step), want, "{what}");
+    }
+    Ok(())
+}
+
+/// What a hash join adds to its sides of the three places, if they have no place in common.
+fn join_over(q: &Query, stats: &Stats, left: u8, right: u8) -> Option<u128>
+    requires places { length q.now.places ≡ 3 }
+    requires sound { IsSoundStats q.now stats.now }
+    requires vector { IsSoundVector q.now stats.now [] }
+{
+    if left == 0 || left >= 8 || right == 0 || right >= 8 || !are_disjoint(left, right) {
+        return None;
+    }
+    Some(join_cost(q, stats, left, right, &[]))
+}
+
+#[test]
+fn each_hash_join_of_three_tables(rt: HostRuntime) -> Result<(), Fail> {
+    let q = three_places(rt.alloc())?.ok_or("not sound")?;
+    let stats = three_tables(rt.alloc(), &q)?.ok_or("other places")?;
+    let (a, b, ab, bc) = (0b001, 0b010, 0b011, 0b110);
+    let cases = [
+        // 8 and 1024 rows are hashed, and 8 come out.
+        ("two places", a, b, Some(2072 * COST_SCALE)),
+        // 8 and 1024 rows are hashed, and a 64th of a row comes out.
+        (
+            "a join on the inner side",
+            a,
+            bc,
+            Some(2064 * COST_SCALE + COST_SCALE / 64),
+        ),
+        ("a place on both sides", ab, bc, None),
+    ];
+    for (what, left, right, want) in cases {
+        assert_eq!(rt; join_over(&q, &stats, left, right), want, "{what}");
     }
     Ok(())
 }

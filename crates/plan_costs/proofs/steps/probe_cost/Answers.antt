@@ -13,6 +13,6 @@ overflow_mul-look_ups c =
 
 pub overflow_add-result : goal.overflow_add-result
 overflow_add-result c =
-    let few = probe_fits c.args.q.now c.args.stats.now c.args.s.now c.args.set c.card.result c.args.place c.args.edge c.look_up_cost-look_up.result c.edge_fan.result c.out_cost.result c.requires.query c.requires.sound c.requires.vector c.requires.valid
-    c.card.ensures.value c.look_up_cost-look_up.ensures c.edge_fan.ensures c.out_cost.ensures in
+    let few = probe_fits c.args.q.now c.args.stats.now c.args.s.now c.args.set c.card.result c.args.place c.args.edge c.look_up_cost-look_up.result c.edge_fan.result c.step_out_cost.result c.requires.query c.requires.sound c.requires.vector c.requires.valid
+    c.card.ensures.value c.look_up_cost-look_up.ensures c.edge_fan.ensures c.step_out_cost.ensures in
     omega arith
