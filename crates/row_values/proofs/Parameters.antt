@@ -1,6 +1,8 @@
--- A statement has at most two parameters for each parameterised predicate.
-use Rattle.std.proofs.Common.{ℕ, ◌≤◌, ◌*◌, ◌==◌, List, [], ◌∷◌, ◌++◌, length, map, not, if◌then◌else◌, unwrap_or, arith, length-append}
+-- A statement has at most sixteen parameters for each parameterised predicate.
+use Rattle.std.proofs.Common.{ℕ, ◌≡◌, ◌≤◌, ◌+◌, ◌*◌, ◌==◌, List, [], ◌∷◌, ◌++◌, length, map, not, if◌then◌else◌, Option, All, unwrap_or, ◌<◌, suc, drop, get_or, ap, sym, ◌∙◌, add-one, drop-cons, append_assoc, arith, length-append}
 use Rattle.std.proofs.lemmas.List.{length-map}
+use Rattle.std.proofs.lemmas.Bool.Decides.{nat_tests}
+use Rattle.std.proofs.lemmas.List.Elements.{All-head, All-tail}
 use Rattle.row_values.specs.declared.values.Kind.{Kind}
 use Rattle.row_values.specs.declared.values.Kind.TheVariants as kind
 use Rattle.row_values.specs.declared.statement.Place.{Place}
@@ -8,32 +10,52 @@ use Rattle.row_values.specs.declared.statement.Pred.{Pred}
 use Rattle.row_values.specs.declared.statement.Operand.{Operand}
 use Rattle.row_values.specs.declared.statement.Operand.TheVariants.{Literal, Param}
 use Rattle.row_values.specs.declared.statement.Test.{Test}
-use Rattle.row_values.specs.declared.statement.Test.TheVariants.{Lt, Le, Gt, Ge, Eq, Between}
-use Rattle.row_values.specs.Statements.{operand_parameters, test_parameters, kinds_of, kind_at, selectivity_count}
+use Rattle.row_values.specs.declared.statement.Test.TheVariants.{Lt, Le, Gt, Ge, Eq, Between, OneOf}
+use Rattle.row_values.specs.Statements.{operand_parameters, operands_parameters, test_parameters, kinds_of, kind_at, selectivity_count, IsTest, IsPred}
 
-abbrev one_if_any : List ℕ → ℕ
-one_if_any numbers = if not (length numbers == 0) then 1 else 0
+-- what is no more than sixteen is no more than sixteen times one, or it is nothing
+few_numbers : (count : ℕ) → count ≤ 16 → count ≤ 16 * (if not (count == 0) then 1 else 0)
+few_numbers count few = grind (arith, nat_tests)
 
-few_in_operand : (a : Operand) → length (operand_parameters a) ≤ 2 * one_if_any (operand_parameters a)
+few_in_operand : (a : Operand) → length (operand_parameters a) ≤ 1
 few_in_operand (Literal value) = omega arith
 few_in_operand (Param number) = omega arith
 
-few_in_two : (a b : Operand) → length (operand_parameters a ++ operand_parameters b) ≤ 2 * one_if_any (operand_parameters a ++ operand_parameters b)
-few_in_two (Literal value) (Literal other) = omega arith
-few_in_two (Literal value) (Param number) = omega arith
-few_in_two (Param number) (Literal value) = omega arith
-few_in_two (Param number) (Param other) = omega arith
+few_in_operands : (operands : List Operand) → length (operands_parameters operands) ≤ length operands
+few_in_operands [] = omega arith
+few_in_operands (a ∷ operands) =
+    omega (arith, length-append (operand_parameters a) (operands_parameters operands), few_in_operand a, few_in_operands operands)
 
-few_in_test : (t : Test) → length (test_parameters t) ≤ 2 * one_if_any (test_parameters t)
-few_in_test (Lt a) = few_in_operand a
-few_in_test (Le a) = few_in_operand a
-few_in_test (Gt a) = few_in_operand a
-few_in_test (Ge a) = few_in_operand a
-few_in_test (Eq a) = few_in_operand a
-few_in_test (Between a b) = few_in_two a b
+few_in_test : (left : Option Kind) (t : Test) → IsTest left t → length (test_parameters t) ≤ 16
+few_in_test left (Lt a) is = omega (arith, few_in_operand a)
+few_in_test left (Le a) is = omega (arith, few_in_operand a)
+few_in_test left (Gt a) is = omega (arith, few_in_operand a)
+few_in_test left (Ge a) is = omega (arith, few_in_operand a)
+few_in_test left (Eq a) is = omega (arith, few_in_operand a)
+few_in_test left (Between a b) is = omega (arith, length-append (operand_parameters a) (operand_parameters b), few_in_operand a, few_in_operand b)
+few_in_test left (OneOf operands) is = omega (arith, few_in_operands operands, is.0.few)
 
-pub length-kinds_of : (places : List Place) (preds : List Pred) → length (kinds_of places preds) ≤ 2 * selectivity_count preds
-length-kinds_of places [] = omega arith
-length-kinds_of places (pred ∷ preds) =
+pub length-kinds_of : (places : List Place) (preds : List Pred) → All (IsPred places) preds → length (kinds_of places preds) ≤ 16 * selectivity_count preds
+length-kinds_of places [] are = omega arith
+length-kinds_of places (pred ∷ preds) are =
     let f : ℕ → Kind = λ _. unwrap_or (kind_at places pred.at) kind.Int in
-    omega (arith, length-append (map f (test_parameters pred.test)) (kinds_of places preds), length-map (test_parameters pred.test) f, few_in_test pred.test, length-kinds_of places preds)
+    let few = few_in_test (kind_at places pred.at) pred.test (All-head (IsPred places) pred preds are) in
+    omega (
+      arith,
+      length-append (map f (test_parameters pred.test)) (kinds_of places preds),
+      length-map (test_parameters pred.test) f,
+      few_numbers (length (test_parameters pred.test)) few,
+      length-kinds_of places preds (All-tail (IsPred places) pred preds are),
+    )
+
+-- the kinds of one more predicate's parameters
+pub kinds_more : (places : List Place) (preds : List Pred) (index : ℕ) (pred : Pred) (left : Kind) (kinds after whole : List Kind) → index < length preds → pred ≡ get_or preds index pred
+    → left ≡ unwrap_or (kind_at places pred.at) kind.Int → after ≡ kinds ++ map (λ _. left) (test_parameters pred.test)
+    → kinds ++ kinds_of places (drop index preds) ≡ whole → after ++ kinds_of places (drop (index + 1) preds) ≡ whole
+kinds_more places preds index pred left kinds after whole there is k e same =
+    let cut : drop index preds ≡ pred ∷ drop (index + 1) preds = rw (add-one, drop-cons preds index pred there) (ap (λ (p : Pred). p ∷ drop (suc index) preds) (sym is)) in
+    let more : List Kind = kinds_of places (drop (index + 1) preds) in
+    ap (λ (ks : List Kind). ks ++ more) e
+    ∙ (append_assoc kinds (map (λ _. left) (test_parameters pred.test)) more
+    ∙ (ap (λ (x : Kind). kinds ++ (map (λ _. x) (test_parameters pred.test) ++ more)) k
+    ∙ (sym (ap (λ (ps : List Pred). kinds ++ kinds_of places ps) cut) ∙ same)))

@@ -2,6 +2,7 @@
 use Rattle.std.specs.Prelude.{ℕ, ◌≡◌, ◌≢◌, ◌<◌, ◌≤◌, ◌+◌, ◌==◌, List, [], ◌∷◌, ◌++◌, length, map, All, slice_get, Bool, true, false, not, ◌&&◌, ◌||◌, if◌then◌else◌, IsTrue, IsSome, Option, Some, unwrap_or, option_and_then}
 use Rattle.std.specs.Option.{option_map}
 use Rattle.std.specs.Str.{bytes_eq}
+use Rattle.row_values.specs.Operands.{AreOperands}
 use Rattle.row_values.specs.Values.{kind_of}
 use Rattle.row_values.specs.declared.statement.TheConstants.{PLACE_LIMIT, SELECTIVITY_LIMIT, CONDITION_LIMIT, ITEM_LIMIT, KEY_LIMIT}
 use Rattle.row_values.specs.declared.statement.Place.{Place}
@@ -9,7 +10,7 @@ use Rattle.row_values.specs.declared.statement.ColRef.{ColRef}
 use Rattle.row_values.specs.declared.statement.Operand.{Operand}
 use Rattle.row_values.specs.declared.statement.Operand.TheVariants.{Literal, Param}
 use Rattle.row_values.specs.declared.statement.Test.{Test}
-use Rattle.row_values.specs.declared.statement.Test.TheVariants.{Lt, Le, Gt, Ge, Eq, Between}
+use Rattle.row_values.specs.declared.statement.Test.TheVariants.{Lt, Le, Gt, Ge, Eq, Between, OneOf}
 use Rattle.row_values.specs.declared.statement.Pred.{Pred}
 use Rattle.row_values.specs.declared.statement.Edge.{Edge}
 use Rattle.row_values.specs.declared.statement.Item.{Item}
@@ -52,6 +53,7 @@ IsTest left (Gt a) = IsOperand left a
 IsTest left (Ge a) = IsOperand left a
 IsTest left (Eq a) = IsOperand left a
 IsTest left (Between a b) = IsOperand left a × IsOperand left b
+IsTest left (OneOf operands) = AreOperands operands × All (IsOperand left) operands
 
 -- a predicate is on a column that is there, against operands of that column's kind
 abbrev pub IsPred : List Place → Pred → Type 0
@@ -71,10 +73,14 @@ IsItem places (item.Sum at) = kind_at places at ≡ Some kind.Int
 IsItem places (item.Min at) = IsColumn places at
 IsItem places (item.Max at) = IsColumn places at
 
--- the numbers of the parameters of an operand, a test, and all predicates, in text order
+-- the numbers of the parameters of an operand, of several, of a test, and of all predicates, in text order
 abbrev pub operand_parameters : Operand → List ℕ
 operand_parameters (Literal value) = []
 operand_parameters (Param number) = number ∷ []
+
+abbrev pub operands_parameters : List Operand → List ℕ
+operands_parameters [] = []
+operands_parameters (operand ∷ operands) = operand_parameters operand ++ operands_parameters operands
 
 abbrev pub test_parameters : Test → List ℕ
 test_parameters (Lt a) = operand_parameters a
@@ -83,6 +89,7 @@ test_parameters (Gt a) = operand_parameters a
 test_parameters (Ge a) = operand_parameters a
 test_parameters (Eq a) = operand_parameters a
 test_parameters (Between a b) = operand_parameters a ++ operand_parameters b
+test_parameters (OneOf operands) = operands_parameters operands
 
 abbrev pub parameters_of : List Pred → List ℕ
 parameters_of [] = []

@@ -6,6 +6,7 @@
 
 mod columns;
 mod numbers;
+mod operands;
 mod plain;
 mod refusals;
 mod spelling;
@@ -15,6 +16,7 @@ mod values;
 
 pub use columns::{COLUMN_LIMIT, Column, Schema};
 pub use numbers::whole_number;
+pub use operands::{OPERAND_LIMIT, Operands};
 pub use plain::{is_plain_name, is_reserved_word};
 pub use refusals::{
     AMBIGUOUS, ARGUMENT_COUNT, ARGUMENT_KIND, FILE_TOO_LONG, MISFIT, MISSING_FILE, NAME_TAKEN,

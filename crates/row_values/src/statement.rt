@@ -5,9 +5,10 @@
 ghost use Rattle.std.specs.Prelude.{◌≡◌, ◌≤◌, ◌<◌, ◌*◌, ◌^◌, ◌+◌, ◌==◌, ◌++◌, ℕ, List, [], ◌∷◌, false, not, ◌↔◌, IfSome, IsSome, IsTrue, MatchOption, All, length, map};
 ghost use Rattle.std.specs.Option.{option_map};
 ghost use Rattle.row_values.specs.Columns.{IsSchema};
-ghost use Rattle.row_values.specs.Statements.{IsSoundQuery, statement_of, IsOperand, IsTest, IsPred, IsEdge, IsItem, IsColumn, AreGrouped, kind_at, kinds_of, is_alias_in, are_aliases, is_among, is_grouped_item, is_plain, selectivity_count, operand_parameters, test_parameters, parameters_of, are_numbered};
+ghost use Rattle.row_values.specs.Statements.{IsSoundQuery, statement_of, IsOperand, IsTest, IsPred, IsEdge, IsItem, IsColumn, AreGrouped, kind_at, kinds_of, is_alias_in, are_aliases, is_among, is_grouped_item, is_plain, selectivity_count, operand_parameters, operands_parameters, test_parameters, parameters_of, are_numbered};
 
 use crate::columns::Schema;
+use crate::operands::{OPERAND_LIMIT, Operands};
 use crate::text::Words;
 use crate::values::{Kind, Value};
 use std::marker::Model;
@@ -22,8 +23,8 @@ pub const CONDITION_LIMIT: usize = 32;
 pub const ITEM_LIMIT: usize = 16;
 /// The most keys of GROUP BY, and of ORDER BY.
 pub const KEY_LIMIT: usize = 8;
-/// The most parameters: two for each parameterised predicate.
-const PARAMETER_LIMIT: usize = 2 * SELECTIVITY_LIMIT;
+/// The most parameters: an IN full of them for each parameterised predicate.
+const PARAMETER_LIMIT: usize = OPERAND_LIMIT * SELECTIVITY_LIMIT;
 
 /// An entry of FROM: its table, its alias and its table's columns.
 #[derive(Debug, Drop)]
@@ -47,7 +48,7 @@ pub enum Operand {
     Param(u8),
 }
 
-/// The comparison of a predicate. `Between` takes both ends.
+/// The comparison of a predicate. `Between` takes both ends, `OneOf` takes each of its operands.
 #[derive(Debug, Drop)]
 pub enum Test {
     Lt(Operand),
@@ -56,6 +57,7 @@ pub enum Test {
     Ge(Operand),
     Eq(Operand),
     Between(Operand, Operand),
+    OneOf(Operands),
 }
 
 /// A condition on one place. It is parameterised where an operand is a parameter, else fixed.
@@ -108,6 +110,16 @@ fn is_operand(left: Option<Kind>, operand: &Operand) -> bool
     }
 }
 
+/// Whether each operand of an IN goes with a column of this kind.
+fn are_operands(left: Option<Kind>, operands: &Operands) -> bool
+    ensures { IsTrue result ↔ IsTest left (Test.OneOf operands.now) }
+{
+    operands
+        .as_slice()
+        .iter()
+        .all(|operand| is_operand(left, operand))
+}
+
 /// Whether each operand of the test goes with a column of this kind.
 fn is_test(left: Option<Kind>, test: &Test) -> bool
     ensures { IsTrue result ↔ IsTest left test.now }
@@ -119,6 +131,7 @@ fn is_test(left: Option<Kind>, test: &Test) -> bool
         Test::Ge(a) => is_operand(left, a),
         Test::Eq(a) => is_operand(left, a),
         Test::Between(a, b) => is_operand(left, a) && is_operand(left, b),
+        Test::OneOf(operands) => are_operands(left, operands),
     }
 }
 
@@ -281,6 +294,18 @@ fn is_parameter(operand: &Operand) -> bool
     }
 }
 
+/// Whether one of the operands is a parameter.
+fn has_parameter(operands: &[Operand]) -> bool
+    ensures { result ≡ not (length (operands_parameters operands.now) == 0) }
+{
+    for operand in operands {
+        if is_parameter(operand) {
+            return true;
+        }
+    }
+    false
+}
+
 /// Whether some operand of the test is a parameter.
 fn is_parameterised(test: &Test) -> bool
     ensures { result ≡ not (length (test_parameters test.now) == 0) }
@@ -292,6 +317,7 @@ fn is_parameterised(test: &Test) -> bool
         Test::Ge(a) => is_parameter(a),
         Test::Eq(a) => is_parameter(a),
         Test::Between(a, b) => is_parameter(a) || is_parameter(b),
+        Test::OneOf(operands) => has_parameter(operands.as_slice()),
     }
 }
 
@@ -316,10 +342,27 @@ fn number_after(next: usize, operand: &Operand) -> Option<usize>
     }
 }
 
+/// The number after these operands, if their parameters are numbered from `next` on.
+fn number_after_all(next: usize, operands: &[Operand]) -> Option<usize>
+    requires bound { next < 2 ^ 31 }
+    requires few { length operands.now ≤ OPERAND_LIMIT }
+    ensures bound { IfSome result (λ after. after ≤ next + OPERAND_LIMIT) }
+    ensures value { (rest : List ℕ) → MatchOption result
+        (are_numbered next (operands_parameters operands.now ++ rest) ≡ false)
+        (λ after. are_numbered next (operands_parameters operands.now ++ rest)
+        ≡ are_numbered after rest) }
+{
+    let mut after = next;
+    for operand in operands {
+        after = number_after(after, operand)?;
+    }
+    Some(after)
+}
+
 /// The number after this test, if its parameters are numbered from `next` on.
 fn number_after_test(next: usize, test: &Test) -> Option<usize>
     requires { next < 2 ^ 31 }
-    ensures bound { IfSome result (λ after. after ≤ next + 2) }
+    ensures bound { IfSome result (λ after. after ≤ next + OPERAND_LIMIT) }
     ensures value { (rest : List ℕ) → MatchOption result
         (are_numbered next (test_parameters test.now ++ rest) ≡ false)
         (λ after. are_numbered next (test_parameters test.now ++ rest) ≡ are_numbered after rest) }
@@ -331,6 +374,7 @@ fn number_after_test(next: usize, test: &Test) -> Option<usize>
         Test::Ge(a) => number_after(next, a),
         Test::Eq(a) => number_after(next, a),
         Test::Between(a, b) => number_after(number_after(next, a)?, b),
+        Test::OneOf(operands) => number_after_all(next, operands.as_slice()),
     }
 }
 
@@ -364,7 +408,7 @@ impl Model for Kinds {
 
     ghost view = { λ k. take k.count k.kinds };
 
-    ghost invariant = { λ k. (k.count ≤ 16) × (length k.kinds ≡ 16) };
+    ghost invariant = { λ k. (k.count ≤ 128) × (length k.kinds ≡ 128) };
 }
 
 impl Kinds {
@@ -406,6 +450,16 @@ fn push_operand(kinds: &mut Kinds, kind: Kind, operand: &Operand)
     }
 }
 
+/// Adds the kind once for each parameter among the operands.
+fn push_operands(kinds: &mut Kinds, kind: Kind, operands: &[Operand])
+    requires { length kinds.old + length (operands_parameters operands.now) ≤ PARAMETER_LIMIT }
+    ensures { kinds.new ≡ kinds.old ++ map (λ _. kind) (operands_parameters operands.now) }
+{
+    for operand in operands {
+        push_operand(kinds, kind, operand);
+    }
+}
+
 /// Adds the kind once for each parameter of the test.
 fn push_test(kinds: &mut Kinds, kind: Kind, test: &Test)
     requires { length kinds.old + length (test_parameters test.now) ≤ PARAMETER_LIMIT }
@@ -421,6 +475,7 @@ fn push_test(kinds: &mut Kinds, kind: Kind, test: &Test)
             push_operand(kinds, kind, a);
             push_operand(kinds, kind, b);
         }
+        Test::OneOf(operands) => push_operands(kinds, kind, operands.as_slice()),
     }
 }
 

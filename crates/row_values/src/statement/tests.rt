@@ -15,6 +15,9 @@ enum Change {
     PlaceTwo,
     ParameterOne,
     LiteralText,
+    InParameter,
+    InParameterOne,
+    InText,
     EdgeOfKinds,
     EdgeWithin,
     SumOfText,
@@ -68,9 +71,23 @@ fn make(alloc: Global, change: Change) -> Result<Option<Query>, AllocError> {
         }
     }
     let operand = match change {
-        Change::ParameterOne => Operand::Param(1),
-        Change::LiteralText => Operand::Literal(Value::Text(Words::of(alloc, "x")?)),
+        Change::ParameterOne | Change::InParameterOne => Operand::Param(1),
+        Change::LiteralText | Change::InText => Operand::Literal(Value::Text(Words::of(
+            alloc, "x",
+        )?)),
         _ => Operand::Param(0),
+    };
+    let test = match change {
+        Change::InParameter | Change::InParameterOne | Change::InText => {
+            let mut parts = Vec::new(alloc);
+            parts.push(Operand::Literal(Value::Int(3)))?;
+            parts.push(operand)?;
+            match Operands::of(parts) {
+                Some(operands) => Test::OneOf(operands),
+                None => return Ok(None),
+            }
+        }
+        _ => Test::Lt(operand),
     };
     let mut preds = Vec::new(alloc);
     preds.push(Pred {
@@ -79,7 +96,7 @@ fn make(alloc: Global, change: Change) -> Result<Option<Query>, AllocError> {
             Change::PlaceTwo => at(2, 0),
             _ => at(0, 0),
         },
-        test: Test::Lt(operand),
+        test,
     })?;
     let mut edges = Vec::new(alloc);
     edges.push(Edge {
@@ -135,6 +152,9 @@ fn sound_statements_alone_are_made(rt: HostRuntime) -> Result<(), Fail> {
         ("a third place", Change::PlaceTwo, false),
         ("parameters from 1", Change::ParameterOne, false),
         ("a number against a text", Change::LiteralText, false),
+        ("IN with a parameter", Change::InParameter, true),
+        ("IN with parameters from 1", Change::InParameterOne, false),
+        ("IN with a text for a number", Change::InText, false),
         ("an edge of two kinds", Change::EdgeOfKinds, false),
         ("an edge within a place", Change::EdgeWithin, false),
         ("SUM of texts", Change::SumOfText, false),
@@ -155,5 +175,53 @@ fn a_parameter_has_the_kind_of_its_column(rt: HostRuntime) -> Result<(), Fail> {
     assert_eq!(rt; q.kinds(), [Kind::Int].as_slice());
     assert_eq!(rt; q.places().len(), 2);
     assert_eq!(rt; q.edges().len(), 1);
+    Ok(())
+}
+
+/// An IN of so many parameters, the first of this number.
+fn one_of(alloc: Global, first: u8, count: u8) -> Result<Option<Operands>, AllocError> {
+    let mut parts = Vec::new(alloc);
+    for i in 0..count {
+        parts.push(Operand::Param(first.wrapping_add(i)))?;
+    }
+    Ok(Operands::of(parts))
+}
+
+#[test]
+fn an_in_has_one_to_sixteen_operands(rt: HostRuntime) -> Result<(), Fail> {
+    let cases = [
+        ("no operand", 0, false),
+        ("one operand", 1, true),
+        ("sixteen operands", 16, true),
+        ("seventeen operands", 17, false),
+    ];
+    for (what, count, made) in cases {
+        assert_eq!(rt; one_of(rt.alloc(), 0, count)?.is_some(), made, "{what}");
+    }
+    Ok(())
+}
+
+#[test]
+fn eight_full_ins_have_128_parameters(rt: HostRuntime) -> Result<(), Fail> {
+    let mut places = Vec::new(rt.alloc());
+    places.push(place(rt.alloc(), "t")?.ok_or("no place")?)?;
+    let mut preds = Vec::new(rt.alloc());
+    for i in 0u8..8 {
+        let operands = one_of(rt.alloc(), i.wrapping_mul(16), 16)?.ok_or("no operands")?;
+        preds.push(Pred {
+            at: at(0, i % 2),
+            test: Test::OneOf(operands),
+        })?;
+    }
+    let mut items = Vec::new(rt.alloc());
+    items.push(Item::Column(at(0, 0)))?;
+    let edges = Vec::new(rt.alloc());
+    let groups = Vec::new(rt.alloc());
+    let order = Vec::new(rt.alloc());
+    let q = Query::make(places, preds, edges, items, groups, order).ok_or("not sound")?;
+    assert_eq!(rt; q.kinds().len(), 128);
+    assert_eq!(rt; q.kinds().get(15).copied(), Some(Kind::Int));
+    assert_eq!(rt; q.kinds().get(16).copied(), Some(Kind::Text));
+    assert_eq!(rt; q.kinds().get(127).copied(), Some(Kind::Text));
     Ok(())
 }
