@@ -1,8 +1,8 @@
 -- What is spelled so is read, whatever follows that can follow.
 use Rattle.std.proofs.Common.{◌≡◌, ℕ, zero, suc, ◌<◌, Bool, true, false, Option, Some, List, [], ◌∷◌, ◌++◌, length, drop, refl, sym, subst, arith}
 use Rattle.std.proofs.lemmas.List.{append_assoc, length-append}
-use Rattle.sql_parser.specs.Grammar.{IsRef, plain, dotted, IsItem, column, count, sum, min, max, IsPlace, bare, called, called_as, IsOperand, literal, parameter, IsTest, less, at_most, greater, at_least, equal, between, IsCond, tested, same, IsKey, rising, rising_asc, falling, AreAll, no_part, part, IsBehind, behind, AreListed, listed}
-use Rattle.sql_parser.specs.Reading.{mark_eq, begins, begins_name, mark_at, ref_at, enclosed_at, count_at, item_at, place_at, operand_at, between_at, test_at, cond_at, key_at, all_at, more_at, list_at}
+use Rattle.sql_parser.specs.Grammar.{IsRef, plain, dotted, IsItem, column, count, sum, min, max, IsPlace, bare, called, called_as, IsOperand, literal, parameter, IsListedOperand, alone, IsTest, less, at_most, greater, at_least, equal, between, one_of, IsCond, tested, same, IsKey, rising, rising_asc, falling, AreAll, no_part, part, IsBehind, behind, AreListed, listed}
+use Rattle.sql_parser.specs.Reading.{mark_eq, begins, begins_name, mark_at, ref_at, enclosed_at, count_at, item_at, place_at, operand_at, between_at, in_at, test_at, cond_at, key_at, all_at, more_at, list_at}
 use Rattle.sql_parser.specs.declared.statement.RawRef.{RawRef}
 use Rattle.sql_parser.specs.declared.statement.RawPlace.{RawPlace}
 use Rattle.sql_parser.specs.declared.statement.RawItem.{RawItem}
@@ -120,79 +120,6 @@ place_again x front rest bare e = rw (no_mark mark.As rest refl e, no_name rest 
 place_again x front rest called e = refl
 place_again x front rest called_as e = refl
 
-operand_again : (x : RawOperand) (t : Token) (rest : List Token) → IsOperand x t → operand_at (t ∷ rest) ≡ Some (x, rest)
-unfolding operand_at mark_eq
-operand_again x t rest literal = refl
-operand_again x t rest parameter = refl
-
--- an operand is no name
-operand_no_name : (x : RawOperand) (t : Token) (rest : List Token) → IsOperand x t → begins_name (t ∷ rest) ≡ false
-operand_no_name x t rest literal = refl
-operand_no_name x t rest parameter = refl
-
-cond_rest_equals : (x : RawOperand) (t : Token) (r : RawRef) (ref rest : List Token) → IsRef r ref → IsOperand x t
-    → cond_at (ref ++ token.Mark mark.Equals ∷ t ∷ rest) ≡ Some (cond_.Test r (test.Eq x), rest)
-unfolding cond_at mark_eq
-cond_rest_equals x t r ref rest is o =
-    rw (ref_again_dot r ref (token.Mark mark.Equals ∷ t ∷ rest) is refl, operand_no_name x t rest o, operand_again x t rest o) refl
-
-test_again : (x : RawTest) (front rest : List Token) → IsTest x front → test_at (front ++ rest) ≡ Some (x, rest)
-unfolding test_at between_at mark_eq
-test_again x front rest (less {x = o} {t} is) = rw (operand_again o t rest is) refl
-test_again x front rest (at_most {x = o} {t} is) = rw (operand_again o t rest is) refl
-test_again x front rest (greater {x = o} {t} is) = rw (operand_again o t rest is) refl
-test_again x front rest (at_least {x = o} {t} is) = rw (operand_again o t rest is) refl
-test_again x front rest (equal {x = o} {t} is) = rw (operand_again o t rest is) refl
-test_again x front rest (between {x = o} {y} {t} {u} is js) =
-    rw (operand_again o t (token.Mark mark.And ∷ u ∷ rest) is) (rw (operand_again y u rest js) refl)
-
-test_no_dot : (x : RawTest) (front rest : List Token) → IsTest x front → begins mark.Dot (front ++ rest) ≡ false
-unfolding mark_eq
-test_no_dot x front rest (less is) = refl
-test_no_dot x front rest (at_most is) = refl
-test_no_dot x front rest (greater is) = refl
-test_no_dot x front rest (at_least is) = refl
-test_no_dot x front rest (equal is) = refl
-test_no_dot x front rest (between is js) = refl
-
--- a test other than an equality
-cond_other : (t : RawTest) (r : RawRef) (ref front rest : List Token) → IsRef r ref → IsTest t front → begins mark.Equals (front ++ rest) ≡ false
-    → cond_at (ref ++ (front ++ rest)) ≡ Some (cond_.Test r t, rest)
-unfolding cond_at
-cond_other t r ref front rest is js e =
-    rw (ref_again_dot r ref (front ++ rest) is (test_no_dot t front rest js), e, test_again t front rest js) refl
-
-cond_tested : (t : RawTest) (r : RawRef) (ref front rest : List Token) → IsRef r ref → IsTest t front → cond_at (ref ++ (front ++ rest)) ≡ Some (cond_.Test r t, rest)
-unfolding mark_eq
-cond_tested t r ref front rest is (less js) = cond_other t r ref front rest is (less js) refl
-cond_tested t r ref front rest is (at_most js) = cond_other t r ref front rest is (at_most js) refl
-cond_tested t r ref front rest is (greater js) = cond_other t r ref front rest is (greater js) refl
-cond_tested t r ref front rest is (at_least js) = cond_other t r ref front rest is (at_least js) refl
-cond_tested t r ref front rest is (equal {x = o} {t = u} js) = cond_rest_equals o u r ref rest is js
-cond_tested t r ref front rest is (between js ks) = cond_other t r ref front rest is (between js ks) refl
-
-append_assoc_cond : {x : RawCond} (ref more rest : List Token) → cond_at (ref ++ (more ++ rest)) ≡ Some (x, rest) → cond_at ((ref ++ more) ++ rest) ≡ Some (x, rest)
-append_assoc_cond ref more rest e = rw (append_assoc ref more rest) e
-
-pub cond_again : (x : RawCond) (front rest : List Token) → IsCond x front → ends rest ≡ true → cond_at (front ++ rest) ≡ Some (x, rest)
-unfolding cond_at mark_eq
-cond_again x front rest (tested {r} {t} {ref} {rest = more} is js) e = append_assoc_cond ref more rest (cond_tested t r ref more rest is js)
-cond_again x front rest (same {r} {s} {left} {right} is js) e =
-    rw (
-      append_assoc left (token.Mark mark.Equals ∷ right) rest,
-      ref_again_dot r left (token.Mark mark.Equals ∷ (right ++ rest)) is refl,
-      ref_begins_name s right rest js,
-      ref_again s right rest js e,
-    ) refl
-
-pub key_again : (x : RawKey) (front rest : List Token) → IsKey x front → ends rest ≡ true → key_at (front ++ rest) ≡ Some (x, rest)
-unfolding key_at mark_eq
-key_again x front rest (rising {r} {ref} is) e = rw (ref_again r ref rest is e, no_mark mark.Desc rest refl e, no_mark mark.Asc rest refl e) refl
-key_again x front rest (rising_asc {r} {ref} is) e =
-    rw (append_assoc ref (token.Mark mark.Asc ∷ []) rest, ref_again_dot r ref (token.Mark mark.Asc ∷ rest) is refl) refl
-key_again x front rest (falling {r} {ref} is) e =
-    rw (append_assoc ref (token.Mark mark.Desc ∷ []) rest, ref_again_dot r ref (token.Mark mark.Desc ∷ rest) is refl) refl
-
 -- lists: a part can be followed by what ends a part, and a part's own beginning does
 pub record Again {T : Type 0} (Is : T → List Token → Type 0) (starts : List Token → Bool) (at : List Token → Option (T × List Token)) (ok : List Token → Bool) : Type 0 where
   pub read : (x : T) (front rest : List Token) → Is x front → ok rest ≡ true → at (front ++ rest) ≡ Some (x, rest)
@@ -259,3 +186,91 @@ list_again {T} Is separator at read k xs front rest (listed {x} {xs = ys} {first
     let a = read x first (more ++ rest) is (all_goes_on (IsBehind Is (token.Mark separator)) (begins separator) (λ z. at (drop 1 z)) ends again ys more rest are e) in
     let b = all_again (IsBehind Is (token.Mark separator)) (begins separator) (λ z. at (drop 1 z)) ends again (suc (length (more ++ rest))) ys more rest are e s (omega arith) in
     rw (append_assoc first more rest, a, b) refl
+
+-- operands, tests, conditions and keys
+operand_again : (x : RawOperand) (t : Token) (rest : List Token) → IsOperand x t → operand_at (t ∷ rest) ≡ Some (x, rest)
+unfolding operand_at mark_eq
+operand_again x t rest literal = refl
+operand_again x t rest parameter = refl
+
+-- an operand is no name
+operand_no_name : (x : RawOperand) (t : Token) (rest : List Token) → IsOperand x t → begins_name (t ∷ rest) ≡ false
+operand_no_name x t rest literal = refl
+operand_no_name x t rest parameter = refl
+
+cond_rest_equals : (x : RawOperand) (t : Token) (r : RawRef) (ref rest : List Token) → IsRef r ref → IsOperand x t
+    → cond_at (ref ++ token.Mark mark.Equals ∷ t ∷ rest) ≡ Some (cond_.Test r (test.Eq x), rest)
+unfolding cond_at mark_eq
+cond_rest_equals x t r ref rest is o =
+    rw (ref_again_dot r ref (token.Mark mark.Equals ∷ t ∷ rest) is refl, operand_no_name x t rest o, operand_again x t rest o) refl
+
+alone_again : (x : RawOperand) (front rest : List Token) → IsListedOperand x front → ends rest ≡ true → operand_at (front ++ rest) ≡ Some (x, rest)
+alone_again x front rest (alone {t} is) e = operand_again x t rest is
+
+no_comma : (rest : List Token) → begins mark.Comma (token.Mark mark.Close ∷ rest) ≡ false
+unfolding mark_eq
+no_comma rest = refl
+
+operands_again : (xs : List RawOperand) (front rest : List Token) → AreListed IsListedOperand (token.Mark mark.Comma) xs front
+    → list_at mark.Comma operand_at (front ++ token.Mark mark.Close ∷ rest) ≡ Some (xs, token.Mark mark.Close ∷ rest)
+operands_again xs front rest are = list_again IsListedOperand mark.Comma operand_at alone_again refl xs front (token.Mark mark.Close ∷ rest) are refl (no_comma rest)
+
+test_again : (x : RawTest) (front rest : List Token) → IsTest x front → test_at (front ++ rest) ≡ Some (x, rest)
+unfolding test_at in_at between_at mark_eq
+test_again x front rest (one_of {xs} {operands} are) = rw (append_assoc operands (token.Mark mark.Close ∷ []) rest, operands_again xs operands rest are) refl
+test_again x front rest (less {x = o} {t} is) = rw (operand_again o t rest is) refl
+test_again x front rest (at_most {x = o} {t} is) = rw (operand_again o t rest is) refl
+test_again x front rest (greater {x = o} {t} is) = rw (operand_again o t rest is) refl
+test_again x front rest (at_least {x = o} {t} is) = rw (operand_again o t rest is) refl
+test_again x front rest (equal {x = o} {t} is) = rw (operand_again o t rest is) refl
+test_again x front rest (between {x = o} {y} {t} {u} is js) =
+    rw (operand_again o t (token.Mark mark.And ∷ u ∷ rest) is) (rw (operand_again y u rest js) refl)
+
+test_no_dot : (x : RawTest) (front rest : List Token) → IsTest x front → begins mark.Dot (front ++ rest) ≡ false
+unfolding mark_eq
+test_no_dot x front rest (less is) = refl
+test_no_dot x front rest (at_most is) = refl
+test_no_dot x front rest (greater is) = refl
+test_no_dot x front rest (at_least is) = refl
+test_no_dot x front rest (equal is) = refl
+test_no_dot x front rest (between is js) = refl
+test_no_dot x front rest (one_of are) = refl
+
+-- a test other than an equality
+cond_other : (t : RawTest) (r : RawRef) (ref front rest : List Token) → IsRef r ref → IsTest t front → begins mark.Equals (front ++ rest) ≡ false
+    → cond_at (ref ++ (front ++ rest)) ≡ Some (cond_.Test r t, rest)
+unfolding cond_at
+cond_other t r ref front rest is js e =
+    rw (ref_again_dot r ref (front ++ rest) is (test_no_dot t front rest js), e, test_again t front rest js) refl
+
+cond_tested : (t : RawTest) (r : RawRef) (ref front rest : List Token) → IsRef r ref → IsTest t front → cond_at (ref ++ (front ++ rest)) ≡ Some (cond_.Test r t, rest)
+unfolding mark_eq
+cond_tested t r ref front rest is (less js) = cond_other t r ref front rest is (less js) refl
+cond_tested t r ref front rest is (at_most js) = cond_other t r ref front rest is (at_most js) refl
+cond_tested t r ref front rest is (greater js) = cond_other t r ref front rest is (greater js) refl
+cond_tested t r ref front rest is (at_least js) = cond_other t r ref front rest is (at_least js) refl
+cond_tested t r ref front rest is (equal {x = o} {t = u} js) = cond_rest_equals o u r ref rest is js
+cond_tested t r ref front rest is (between js ks) = cond_other t r ref front rest is (between js ks) refl
+cond_tested t r ref front rest is (one_of are) = cond_other t r ref front rest is (one_of are) refl
+
+append_assoc_cond : {x : RawCond} (ref more rest : List Token) → cond_at (ref ++ (more ++ rest)) ≡ Some (x, rest) → cond_at ((ref ++ more) ++ rest) ≡ Some (x, rest)
+append_assoc_cond ref more rest e = rw (append_assoc ref more rest) e
+
+pub cond_again : (x : RawCond) (front rest : List Token) → IsCond x front → ends rest ≡ true → cond_at (front ++ rest) ≡ Some (x, rest)
+unfolding cond_at mark_eq
+cond_again x front rest (tested {r} {t} {ref} {rest = more} is js) e = append_assoc_cond ref more rest (cond_tested t r ref more rest is js)
+cond_again x front rest (same {r} {s} {left} {right} is js) e =
+    rw (
+      append_assoc left (token.Mark mark.Equals ∷ right) rest,
+      ref_again_dot r left (token.Mark mark.Equals ∷ (right ++ rest)) is refl,
+      ref_begins_name s right rest js,
+      ref_again s right rest js e,
+    ) refl
+
+pub key_again : (x : RawKey) (front rest : List Token) → IsKey x front → ends rest ≡ true → key_at (front ++ rest) ≡ Some (x, rest)
+unfolding key_at mark_eq
+key_again x front rest (rising {r} {ref} is) e = rw (ref_again r ref rest is e, no_mark mark.Desc rest refl e, no_mark mark.Asc rest refl e) refl
+key_again x front rest (rising_asc {r} {ref} is) e =
+    rw (append_assoc ref (token.Mark mark.Asc ∷ []) rest, ref_again_dot r ref (token.Mark mark.Asc ∷ rest) is refl) refl
+key_again x front rest (falling {r} {ref} is) e =
+    rw (append_assoc ref (token.Mark mark.Desc ∷ []) rest, ref_again_dot r ref (token.Mark mark.Desc ∷ rest) is refl) refl

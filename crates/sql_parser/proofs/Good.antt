@@ -1,7 +1,7 @@
 -- What the tokens of a text spell is sound.
 use Rattle.std.proofs.Common.{◌≡◌, ℕ, Bool, true, Some, List, [], ◌∷◌, ◌++◌, refl, subst}
 use Rattle.sql_parser.specs.Statement.{Parts}
-use Rattle.sql_parser.specs.Grammar.{IsRef, plain, dotted, IsItem, column, count, sum, min, max, IsPlace, bare, called, called_as, IsOperand, literal, parameter, IsTest, less, at_most, greater, at_least, equal, between, IsCond, tested, same, IsKey, rising, rising_asc, falling, AreAll, no_part, part, IsBehind, behind, AreListed, listed, Joined, IsJoined, comma, join, inner_join, joined_places, joined_conds, IsWhere, no_where, filtered, IsGroup, no_group, grouped, IsOrder, no_order, ordered}
+use Rattle.sql_parser.specs.Grammar.{IsRef, plain, dotted, IsItem, column, count, sum, min, max, IsPlace, bare, called, called_as, IsOperand, literal, parameter, IsListedOperand, alone, IsTest, less, at_most, greater, at_least, equal, between, one_of, IsCond, tested, same, IsKey, rising, rising_asc, falling, AreAll, no_part, part, IsBehind, behind, AreListed, listed, Joined, IsJoined, comma, join, inner_join, joined_places, joined_conds, IsWhere, no_where, filtered, IsGroup, no_group, grouped, IsOrder, no_order, ordered}
 use Rattle.sql_parser.specs.Reading.{statement_at}
 use Rattle.sql_parser.specs.declared.statement.RawRef.{RawRef}
 use Rattle.sql_parser.specs.declared.statement.RawPlace.{RawPlace}
@@ -88,28 +88,6 @@ operand_good x t parameter e = refl
 one_good : (m : Mark) (x : RawOperand) (t : Token) → IsOperand x t → each is_good (token.Mark m ∷ t ∷ []) ≡ true → is_operand x ≡ true
 one_good m x t is e = let a = head_good (token.Mark m) (t ∷ []) e in operand_good x t is (head_good t [] a.1).0
 
-test_good : (x : RawTest) (f : List Token) → IsTest x f → each is_good f ≡ true → is_test x ≡ true
-test_good x f (less {x = o} {t} is) e = one_good mark.Less o t is e
-test_good x f (at_most {x = o} {t} is) e = one_good mark.AtMost o t is e
-test_good x f (greater {x = o} {t} is) e = one_good mark.Greater o t is e
-test_good x f (at_least {x = o} {t} is) e = one_good mark.AtLeast o t is e
-test_good x f (equal {x = o} {t} is) e = one_good mark.Equals o t is e
-test_good x f (between {x = o} {y} {t} {u} is js) e =
-    let a = head_good (token.Mark mark.Between) (t ∷ token.Mark mark.And ∷ u ∷ []) e in
-    let b = head_good t (token.Mark mark.And ∷ u ∷ []) a.1 in
-    and_true (is_operand o) (is_operand y) (operand_good o t is b.0) (one_good mark.And y u js b.1)
-
-cond_good : (x : RawCond) (f : List Token) → IsCond x f → each is_good f ≡ true → is_cond x ≡ true
-cond_good x f (tested {r} {t} {ref} {rest} is js) e = let a = good_front ref rest e in and_true (is_ref r) (is_test t) (ref_good r ref is a.0) (test_good t rest js a.1)
-cond_good x f (same {r} {s} {left} {right} is js) e =
-    let a = good_front left (token.Mark mark.Equals ∷ right) e in
-    and_true (is_ref r) (is_ref s) (ref_good r left is a.0) (ref_good s right js (head_good (token.Mark mark.Equals) right a.1).1)
-
-key_good : (x : RawKey) (f : List Token) → IsKey x f → each is_good f ≡ true → is_key x ≡ true
-key_good x f (rising {r} is) e = ref_good r f is e
-key_good x f (rising_asc {r} {ref} is) e = ref_good r ref is (good_front ref (token.Mark mark.Asc ∷ []) e).0
-key_good x f (falling {r} {ref} is) e = ref_good r ref is (good_front ref (token.Mark mark.Desc ∷ []) e).0
-
 behind_good : {T : Type 0} (Is : T → List Token → Type 0) (test : T → Bool) (m : Mark) → ((x : T) (f : List Token) → Is x f → each is_good f ≡ true → test x ≡ true)
     → (x : T) (f : List Token) → IsBehind Is (token.Mark m) x f → each is_good f ≡ true → test x ≡ true
 behind_good Is test m good x f (behind {tokens} is) e = good x tokens is (head_good (token.Mark m) tokens e).1
@@ -126,6 +104,36 @@ listed_good : {T : Type 0} (Is : T → List Token → Type 0) (test : T → Bool
 listed_good Is test m good xs f (listed {x} {xs = ys} {first} {rest} is are) e =
     let a = good_front first rest e in
     (and_true (test x) (each test ys) (good x first is a.0) (behind_all_good Is test m good ys rest are a.1), refl)
+
+alone_good : (x : RawOperand) (f : List Token) → IsListedOperand x f → each is_good f ≡ true → is_operand x ≡ true
+alone_good x f (alone {t} is) e = operand_good x t is (head_good t [] e).0
+
+test_good : (x : RawTest) (f : List Token) → IsTest x f → each is_good f ≡ true → is_test x ≡ true
+test_good x f (less {x = o} {t} is) e = one_good mark.Less o t is e
+test_good x f (at_most {x = o} {t} is) e = one_good mark.AtMost o t is e
+test_good x f (greater {x = o} {t} is) e = one_good mark.Greater o t is e
+test_good x f (at_least {x = o} {t} is) e = one_good mark.AtLeast o t is e
+test_good x f (equal {x = o} {t} is) e = one_good mark.Equals o t is e
+test_good x f (between {x = o} {y} {t} {u} is js) e =
+    let a = head_good (token.Mark mark.Between) (t ∷ token.Mark mark.And ∷ u ∷ []) e in
+    let b = head_good t (token.Mark mark.And ∷ u ∷ []) a.1 in
+    and_true (is_operand o) (is_operand y) (operand_good o t is b.0) (one_good mark.And y u js b.1)
+test_good x f (one_of {xs} {operands} are) e =
+    let a = head_good (token.Mark mark.In) (token.Mark mark.Open ∷ (operands ++ token.Mark mark.Close ∷ [])) e in
+    let b = head_good (token.Mark mark.Open) (operands ++ token.Mark mark.Close ∷ []) a.1 in
+    let c = listed_good IsListedOperand is_operand mark.Comma alone_good xs operands are (good_front operands (token.Mark mark.Close ∷ []) b.1).0 in
+    and_true (is_some xs) (each is_operand xs) c.1 c.0
+
+cond_good : (x : RawCond) (f : List Token) → IsCond x f → each is_good f ≡ true → is_cond x ≡ true
+cond_good x f (tested {r} {t} {ref} {rest} is js) e = let a = good_front ref rest e in and_true (is_ref r) (is_test t) (ref_good r ref is a.0) (test_good t rest js a.1)
+cond_good x f (same {r} {s} {left} {right} is js) e =
+    let a = good_front left (token.Mark mark.Equals ∷ right) e in
+    and_true (is_ref r) (is_ref s) (ref_good r left is a.0) (ref_good s right js (head_good (token.Mark mark.Equals) right a.1).1)
+
+key_good : (x : RawKey) (f : List Token) → IsKey x f → each is_good f ≡ true → is_key x ≡ true
+key_good x f (rising {r} is) e = ref_good r f is e
+key_good x f (rising_asc {r} {ref} is) e = ref_good r ref is (good_front ref (token.Mark mark.Asc ∷ []) e).0
+key_good x f (falling {r} {ref} is) e = ref_good r ref is (good_front ref (token.Mark mark.Desc ∷ []) e).0
 
 each_append : {T : Type 0} (test : T → Bool) (xs ys : List T) → each test xs ≡ true → each test ys ≡ true → each test (xs ++ ys) ≡ true
 each_append test [] ys p q = q

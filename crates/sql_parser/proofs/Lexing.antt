@@ -2,7 +2,7 @@
 use Rattle.std.proofs.Common.{◌≡◌, ℕ, suc, ◌<◌, Bool, true, false, cond, ◌||◌, ◌==◌, not, Option, Some, None, List, [], ◌∷◌, ◌++◌, length, drop, take, ◌^◌, take, refl, sym, ◌∙◌, ap, subst, arith}
 use Rattle.std.proofs.lemmas.List.{append-nil, append_assoc}
 use Rattle.sql_parser.specs.Statement.{Parts}
-use Rattle.sql_parser.specs.Grammar.{IsRef, plain, dotted, IsItem, column, count, sum, min, max, IsPlace, bare, called_as, IsOperand, literal, parameter, IsTest, less, at_most, greater, at_least, equal, between, IsCond, tested, same, IsKey, rising, falling, AreAll, no_part, part, IsBehind, behind, AreListed, listed, Joined, IsJoined, comma, joined_places, joined_conds, IsWhere, no_where, filtered, IsGroup, no_group, grouped, IsOrder, no_order, ordered, bare_end, IsStatement, statement, IsStatementText}
+use Rattle.sql_parser.specs.Grammar.{IsRef, plain, dotted, IsItem, column, count, sum, min, max, IsPlace, bare, called_as, IsOperand, literal, parameter, IsListedOperand, alone, IsTest, less, at_most, greater, at_least, equal, between, one_of, IsCond, tested, same, IsKey, rising, falling, AreAll, no_part, part, IsBehind, behind, AreListed, listed, Joined, IsJoined, comma, joined_places, joined_conds, IsWhere, no_where, filtered, IsGroup, no_group, grouped, IsOrder, no_order, ordered, bare_end, IsStatement, statement, IsStatementText}
 use Rattle.sql_parser.specs.declared.statement.RawRef.{RawRef}
 use Rattle.sql_parser.specs.declared.statement.RawPlace.{RawPlace}
 use Rattle.sql_parser.specs.declared.statement.RawItem.{RawItem}
@@ -353,108 +353,6 @@ place_of_spelled table alias h k =
 place_spelled : (x : RawPlace) → is_place x ≡ true → Spelled IsPlace x (place_text x)
 place_spelled x h = let hs = both (is_name x.table) (is_name x.alias) h in place_of_spelled x.table x.alias hs.0 hs.1
 
--- operands and tests
-record OperandSpelled (x : RawOperand) : Type 0 where
-  one : Token
-  is : IsOperand x one
-  read : (rest : List ℕ) (ts : List Token) → stops rest ≡ true → AreTokens rest ts → AreTokens (operand_text x ++ rest) (one ∷ ts)
-
-operand_spelled : (x : RawOperand) → is_operand x ≡ true → OperandSpelled x
-operand_spelled (operand.Literal (Int z)) h = record { one = token.Literal (Int z); is = literal; read = λ rest ts s are. number_token z rest ts h s are }
-operand_spelled (operand.Literal (Text t)) h = record { one = token.Literal (Text t); is = literal; read = λ rest ts s are. text_token t rest ts s are }
-operand_spelled operand.Param h = record { one = token.Mark mark.Question; is = parameter; read = λ rest ts s are. question_token rest ts are }
-
-between_read : (x y : RawOperand) (o : OperandSpelled x) (p : OperandSpelled y) (rest : List ℕ) (ts : List Token) → stops rest ≡ true → AreTokens rest ts
-    → AreTokens ((codes " BETWEEN " ++ operand_text x ++ codes " AND " ++ operand_text y) ++ rest) (token.Mark mark.Between ∷ o.one ∷ token.Mark mark.And ∷ p.one ∷ ts)
-between_read x y o p rest ts s are =
-    let e = append_assoc (codes " BETWEEN " ++ operand_text x ++ codes " AND ") (operand_text y) rest ∙ append_assoc (codes " BETWEEN " ++ operand_text x) (codes " AND ") (operand_text y ++ rest)
-    ∙ append_assoc (codes " BETWEEN ") (operand_text x) (codes " AND " ++ (operand_text y ++ rest)) in
-    let tail = space (65 ∷ 78 ∷ 68 ∷ 32 ∷ (operand_text y ++ rest)) (token.Mark mark.And ∷ p.one ∷ ts)
-    (word_mark mark.And (32 ∷ (operand_text y ++ rest)) (p.one ∷ ts) refl refl (space (operand_text y ++ rest) (p.one ∷ ts) (p.read rest ts s are))) in
-    let low = o.read (32 ∷ 65 ∷ 78 ∷ 68 ∷ 32 ∷ (operand_text y ++ rest)) (token.Mark mark.And ∷ p.one ∷ ts) refl tail in
-    at_text _ _ _ _ (sym e) refl (space _ _ (word_mark mark.Between (32 ∷ (operand_text x ++ 32 ∷ 65 ∷ 78 ∷ 68 ∷ 32 ∷ (operand_text y ++ rest))) (o.one ∷ token.Mark mark.And ∷ p.one ∷ ts) refl refl
-    (space (operand_text x ++ 32 ∷ 65 ∷ 78 ∷ 68 ∷ 32 ∷ (operand_text y ++ rest)) (o.one ∷ token.Mark mark.And ∷ p.one ∷ ts) low)))
-
-test_spelled : (x : RawTest) → is_test x ≡ true → Spelled IsTest x (test_text x)
-test_spelled (test.Lt x) h = let o = operand_spelled x h in record {
-  tokens = token.Mark mark.Less ∷ o.one ∷ [];
-  is = less o.is;
-  read = λ rest ts s are. space (60 ∷ 32 ∷ (operand_text x ++ rest)) (token.Mark mark.Less ∷ o.one ∷ ts) (less_token (operand_text x ++ rest) (o.one ∷ ts) (o.read rest ts s are));
-}
-test_spelled (test.Le x) h = let o = operand_spelled x h in record {
-  tokens = token.Mark mark.AtMost ∷ o.one ∷ [];
-  is = at_most o.is;
-  read = λ rest ts s are. space (60 ∷ 61 ∷ 32 ∷ (operand_text x ++ rest)) (token.Mark mark.AtMost ∷ o.one ∷ ts) (at_most_token (operand_text x ++ rest) (o.one ∷ ts) (o.read rest ts s are));
-}
-test_spelled (test.Gt x) h = let o = operand_spelled x h in record {
-  tokens = token.Mark mark.Greater ∷ o.one ∷ [];
-  is = greater o.is;
-  read = λ rest ts s are. space (62 ∷ 32 ∷ (operand_text x ++ rest)) (token.Mark mark.Greater ∷ o.one ∷ ts) (greater_token (operand_text x ++ rest) (o.one ∷ ts) (o.read rest ts s are));
-}
-test_spelled (test.Ge x) h = let o = operand_spelled x h in record {
-  tokens = token.Mark mark.AtLeast ∷ o.one ∷ [];
-  is = at_least o.is;
-  read = λ rest ts s are. space (62 ∷ 61 ∷ 32 ∷ (operand_text x ++ rest)) (token.Mark mark.AtLeast ∷ o.one ∷ ts) (at_least_token (operand_text x ++ rest) (o.one ∷ ts) (o.read rest ts s are));
-}
-test_spelled (test.Eq x) h = let o = operand_spelled x h in record {
-  tokens = token.Mark mark.Equals ∷ o.one ∷ [];
-  is = equal o.is;
-  read = λ rest ts s are. space (61 ∷ 32 ∷ (operand_text x ++ rest)) (token.Mark mark.Equals ∷ o.one ∷ ts) (equals_token (operand_text x ++ rest) (o.one ∷ ts) (o.read rest ts s are));
-}
-test_spelled (test.Between x y) h =
-    let hs = both (is_operand x) (is_operand y) h in
-    let o = operand_spelled x hs.0 in
-    let p = operand_spelled y hs.1 in
-    record { tokens = token.Mark mark.Between ∷ o.one ∷ token.Mark mark.And ∷ p.one ∷ []; is = between o.is p.is; read = λ rest ts s are. between_read x y o p rest ts s are }
-
-test_stops : (x : RawTest) (rest : List ℕ) → stops (test_text x ++ rest) ≡ true
-test_stops (test.Lt x) rest = refl
-test_stops (test.Le x) rest = refl
-test_stops (test.Gt x) rest = refl
-test_stops (test.Ge x) rest = refl
-test_stops (test.Eq x) rest = refl
-test_stops (test.Between x y) rest = refl
-
--- conditions and keys
-cond_spelled : (x : RawCond) → is_cond x ≡ true → Spelled IsCond x (cond_text x)
-cond_spelled (cond_.Test r t) h =
-    let hs = both (is_ref r) (is_test t) h in
-    let p = ref_spelled r hs.0 in
-    let q = test_spelled t hs.1 in
-    record {
-      tokens = p.tokens ++ q.tokens;
-      is = tested p.is q.is;
-      read = λ rest ts s are. at_text _ _ _ _ (sym (append_assoc (ref_text r) (test_text t) rest)) (sym (append_assoc p.tokens q.tokens ts))
-          (p.read (test_text t ++ rest) (q.tokens ++ ts) (test_stops t rest) (q.read rest ts s are));
-    }
-cond_spelled (cond_.Same r u) h =
-    let hs = both (is_ref r) (is_ref u) h in
-    let p = ref_spelled r hs.0 in
-    let q = ref_spelled u hs.1 in
-    record {
-      tokens = p.tokens ++ token.Mark mark.Equals ∷ q.tokens;
-      is = same p.is q.is;
-      read = λ rest ts s are. at_text _ _ _ _ (sym (regroup (ref_text r) (codes " = ") (ref_text u) rest)) (sym (append_assoc p.tokens (token.Mark mark.Equals ∷ q.tokens) ts))
-          (p.read (32 ∷ 61 ∷ 32 ∷ (ref_text u ++ rest)) (token.Mark mark.Equals ∷ (q.tokens ++ ts)) refl
-          (space (61 ∷ 32 ∷ (ref_text u ++ rest)) (token.Mark mark.Equals ∷ (q.tokens ++ ts)) (equals_token (ref_text u ++ rest) (q.tokens ++ ts) (q.read rest ts s are))));
-    }
-
-key_of_spelled : (r : RawRef) (down : Bool) → is_ref r ≡ true → Spelled IsKey (record { at = r; descending = down }) (ref_text r ++ (cond down (codes " DESC") []))
-key_of_spelled r true h =
-    let p = ref_spelled r h in
-    record {
-      tokens = p.tokens ++ token.Mark mark.Desc ∷ [];
-      is = falling p.is;
-      read = λ rest ts s are. at_text _ _ _ _ (sym (append_assoc (ref_text r) (codes " DESC") rest)) (sym (append_assoc p.tokens (token.Mark mark.Desc ∷ []) ts))
-          (p.read (32 ∷ 68 ∷ 69 ∷ 83 ∷ 67 ∷ rest) (token.Mark mark.Desc ∷ ts) refl (space (68 ∷ 69 ∷ 83 ∷ 67 ∷ rest) (token.Mark mark.Desc ∷ ts) (word_mark mark.Desc rest ts refl (stop_name rest s).0 are)));
-    }
-key_of_spelled r false h =
-    let p = ref_spelled r h in
-    record { tokens = p.tokens; is = rising p.is; read = λ rest ts s are. at_text _ _ _ _ (ap (λ z. z ++ rest) (sym (append-nil (ref_text r)))) refl (p.read rest ts s are) }
-
-key_spelled : (x : RawKey) → is_key x ≡ true → Spelled IsKey x (key_text x)
-key_spelled x h = key_of_spelled x.at x.descending h
-
 -- ---- lists
 
 -- a separator is its mark, and ends what goes before it
@@ -514,6 +412,140 @@ list_spelled Is separator m text test sep spelled x xs h =
 
 word_list : (word a b rest : List ℕ) → word ++ ((a ++ b) ++ rest) ≡ (word ++ a ++ b) ++ rest
 word_list word a b rest = sym (regroup word a b rest ∙ ap (λ z. word ++ z) (sym (append_assoc a b rest)))
+
+-- operands and tests
+record OperandSpelled (x : RawOperand) : Type 0 where
+  one : Token
+  is : IsOperand x one
+  read : (rest : List ℕ) (ts : List Token) → stops rest ≡ true → AreTokens rest ts → AreTokens (operand_text x ++ rest) (one ∷ ts)
+
+operand_spelled : (x : RawOperand) → is_operand x ≡ true → OperandSpelled x
+operand_spelled (operand.Literal (Int z)) h = record { one = token.Literal (Int z); is = literal; read = λ rest ts s are. number_token z rest ts h s are }
+operand_spelled (operand.Literal (Text t)) h = record { one = token.Literal (Text t); is = literal; read = λ rest ts s are. text_token t rest ts s are }
+operand_spelled operand.Param h = record { one = token.Mark mark.Question; is = parameter; read = λ rest ts s are. question_token rest ts are }
+
+between_read : (x y : RawOperand) (o : OperandSpelled x) (p : OperandSpelled y) (rest : List ℕ) (ts : List Token) → stops rest ≡ true → AreTokens rest ts
+    → AreTokens ((codes " BETWEEN " ++ operand_text x ++ codes " AND " ++ operand_text y) ++ rest) (token.Mark mark.Between ∷ o.one ∷ token.Mark mark.And ∷ p.one ∷ ts)
+between_read x y o p rest ts s are =
+    let e = append_assoc (codes " BETWEEN " ++ operand_text x ++ codes " AND ") (operand_text y) rest ∙ append_assoc (codes " BETWEEN " ++ operand_text x) (codes " AND ") (operand_text y ++ rest)
+    ∙ append_assoc (codes " BETWEEN ") (operand_text x) (codes " AND " ++ (operand_text y ++ rest)) in
+    let tail = space (65 ∷ 78 ∷ 68 ∷ 32 ∷ (operand_text y ++ rest)) (token.Mark mark.And ∷ p.one ∷ ts)
+    (word_mark mark.And (32 ∷ (operand_text y ++ rest)) (p.one ∷ ts) refl refl (space (operand_text y ++ rest) (p.one ∷ ts) (p.read rest ts s are))) in
+    let low = o.read (32 ∷ 65 ∷ 78 ∷ 68 ∷ 32 ∷ (operand_text y ++ rest)) (token.Mark mark.And ∷ p.one ∷ ts) refl tail in
+    at_text _ _ _ _ (sym e) refl (space _ _ (word_mark mark.Between (32 ∷ (operand_text x ++ 32 ∷ 65 ∷ 78 ∷ 68 ∷ 32 ∷ (operand_text y ++ rest))) (o.one ∷ token.Mark mark.And ∷ p.one ∷ ts) refl refl
+    (space (operand_text x ++ 32 ∷ 65 ∷ 78 ∷ 68 ∷ 32 ∷ (operand_text y ++ rest)) (o.one ∷ token.Mark mark.And ∷ p.one ∷ ts) low)))
+
+alone_spelled : (x : RawOperand) → is_operand x ≡ true → Spelled IsListedOperand x (operand_text x)
+alone_spelled x h = let o = operand_spelled x h in record { tokens = o.one ∷ []; is = alone o.is; read = λ rest ts s are. o.read rest ts s are }
+
+in_read : (x : RawOperand) (xs : List RawOperand) (p : ListSpelled IsListedOperand mark.Comma (x ∷ xs) (operand_text x ++ behind_text (codes ", ") operand_text xs)) (rest : List ℕ) (ts : List Token) → AreTokens rest ts
+    → AreTokens ((listed_text (codes " IN (") (codes ", ") operand_text (x ∷ xs) ++ codes ")") ++ rest) ((token.Mark mark.In ∷ token.Mark mark.Open ∷ (p.tokens ++ token.Mark mark.Close ∷ [])) ++ ts)
+in_read x xs p rest ts are =
+    let inside : List ℕ = operand_text x ++ behind_text (codes ", ") operand_text xs in
+    let a = word_list (codes " IN (") (operand_text x) (behind_text (codes ", ") operand_text xs) (41 ∷ rest)
+    ∙ sym (append_assoc (listed_text (codes " IN (") (codes ", ") operand_text (x ∷ xs)) (codes ")") rest) in
+    let b = ap (λ (z : List Token). token.Mark mark.In ∷ token.Mark mark.Open ∷ z) (sym (append_assoc p.tokens (token.Mark mark.Close ∷ []) ts)) in
+    let tail = p.read (41 ∷ rest) (token.Mark mark.Close ∷ ts) refl (close_token rest ts are) in
+    at_text _ _ _ _ a b (space _ _ (word_mark mark.In (32 ∷ 40 ∷ (inside ++ 41 ∷ rest)) (token.Mark mark.Open ∷ (p.tokens ++ token.Mark mark.Close ∷ ts)) refl refl
+    (space _ _ (open_token (inside ++ 41 ∷ rest) (p.tokens ++ token.Mark mark.Close ∷ ts) tail))))
+
+in_spelled : (xs : List RawOperand) → is_some xs ≡ true → each is_operand xs ≡ true → Spelled IsTest (test.OneOf xs) (test_text (test.OneOf xs))
+in_spelled [] some h = absurd cc
+in_spelled (x ∷ xs) some h =
+    let p = list_spelled IsListedOperand (codes ", ") mark.Comma operand_text is_operand comma_separates alone_spelled x xs h in
+    record {
+      tokens = token.Mark mark.In ∷ token.Mark mark.Open ∷ (p.tokens ++ token.Mark mark.Close ∷ []);
+      is = one_of p.is;
+      read = λ rest ts s are. in_read x xs p rest ts are;
+    }
+
+test_spelled : (x : RawTest) → is_test x ≡ true → Spelled IsTest x (test_text x)
+test_spelled (test.Lt x) h = let o = operand_spelled x h in record {
+  tokens = token.Mark mark.Less ∷ o.one ∷ [];
+  is = less o.is;
+  read = λ rest ts s are. space (60 ∷ 32 ∷ (operand_text x ++ rest)) (token.Mark mark.Less ∷ o.one ∷ ts) (less_token (operand_text x ++ rest) (o.one ∷ ts) (o.read rest ts s are));
+}
+test_spelled (test.Le x) h = let o = operand_spelled x h in record {
+  tokens = token.Mark mark.AtMost ∷ o.one ∷ [];
+  is = at_most o.is;
+  read = λ rest ts s are. space (60 ∷ 61 ∷ 32 ∷ (operand_text x ++ rest)) (token.Mark mark.AtMost ∷ o.one ∷ ts) (at_most_token (operand_text x ++ rest) (o.one ∷ ts) (o.read rest ts s are));
+}
+test_spelled (test.Gt x) h = let o = operand_spelled x h in record {
+  tokens = token.Mark mark.Greater ∷ o.one ∷ [];
+  is = greater o.is;
+  read = λ rest ts s are. space (62 ∷ 32 ∷ (operand_text x ++ rest)) (token.Mark mark.Greater ∷ o.one ∷ ts) (greater_token (operand_text x ++ rest) (o.one ∷ ts) (o.read rest ts s are));
+}
+test_spelled (test.Ge x) h = let o = operand_spelled x h in record {
+  tokens = token.Mark mark.AtLeast ∷ o.one ∷ [];
+  is = at_least o.is;
+  read = λ rest ts s are. space (62 ∷ 61 ∷ 32 ∷ (operand_text x ++ rest)) (token.Mark mark.AtLeast ∷ o.one ∷ ts) (at_least_token (operand_text x ++ rest) (o.one ∷ ts) (o.read rest ts s are));
+}
+test_spelled (test.Eq x) h = let o = operand_spelled x h in record {
+  tokens = token.Mark mark.Equals ∷ o.one ∷ [];
+  is = equal o.is;
+  read = λ rest ts s are. space (61 ∷ 32 ∷ (operand_text x ++ rest)) (token.Mark mark.Equals ∷ o.one ∷ ts) (equals_token (operand_text x ++ rest) (o.one ∷ ts) (o.read rest ts s are));
+}
+test_spelled (test.Between x y) h =
+    let hs = both (is_operand x) (is_operand y) h in
+    let o = operand_spelled x hs.0 in
+    let p = operand_spelled y hs.1 in
+    record { tokens = token.Mark mark.Between ∷ o.one ∷ token.Mark mark.And ∷ p.one ∷ []; is = between o.is p.is; read = λ rest ts s are. between_read x y o p rest ts s are }
+test_spelled (test.OneOf xs) h = let hs = both (is_some xs) (each is_operand xs) h in in_spelled xs hs.0 hs.1
+
+in_stops : (xs : List RawOperand) (rest : List ℕ) → stops (test_text (test.OneOf xs) ++ rest) ≡ true
+in_stops [] rest = refl
+in_stops (x ∷ xs) rest = refl
+
+test_stops : (x : RawTest) (rest : List ℕ) → stops (test_text x ++ rest) ≡ true
+test_stops (test.Lt x) rest = refl
+test_stops (test.Le x) rest = refl
+test_stops (test.Gt x) rest = refl
+test_stops (test.Ge x) rest = refl
+test_stops (test.Eq x) rest = refl
+test_stops (test.Between x y) rest = refl
+test_stops (test.OneOf xs) rest = in_stops xs rest
+
+-- conditions and keys
+cond_spelled : (x : RawCond) → is_cond x ≡ true → Spelled IsCond x (cond_text x)
+cond_spelled (cond_.Test r t) h =
+    let hs = both (is_ref r) (is_test t) h in
+    let p = ref_spelled r hs.0 in
+    let q = test_spelled t hs.1 in
+    record {
+      tokens = p.tokens ++ q.tokens;
+      is = tested p.is q.is;
+      read = λ rest ts s are. at_text _ _ _ _ (sym (append_assoc (ref_text r) (test_text t) rest)) (sym (append_assoc p.tokens q.tokens ts))
+          (p.read (test_text t ++ rest) (q.tokens ++ ts) (test_stops t rest) (q.read rest ts s are));
+    }
+cond_spelled (cond_.Same r u) h =
+    let hs = both (is_ref r) (is_ref u) h in
+    let p = ref_spelled r hs.0 in
+    let q = ref_spelled u hs.1 in
+    record {
+      tokens = p.tokens ++ token.Mark mark.Equals ∷ q.tokens;
+      is = same p.is q.is;
+      read = λ rest ts s are. at_text _ _ _ _ (sym (regroup (ref_text r) (codes " = ") (ref_text u) rest)) (sym (append_assoc p.tokens (token.Mark mark.Equals ∷ q.tokens) ts))
+          (p.read (32 ∷ 61 ∷ 32 ∷ (ref_text u ++ rest)) (token.Mark mark.Equals ∷ (q.tokens ++ ts)) refl
+          (space (61 ∷ 32 ∷ (ref_text u ++ rest)) (token.Mark mark.Equals ∷ (q.tokens ++ ts)) (equals_token (ref_text u ++ rest) (q.tokens ++ ts) (q.read rest ts s are))));
+    }
+
+key_of_spelled : (r : RawRef) (down : Bool) → is_ref r ≡ true → Spelled IsKey (record { at = r; descending = down }) (ref_text r ++ (cond down (codes " DESC") []))
+key_of_spelled r true h =
+    let p = ref_spelled r h in
+    record {
+      tokens = p.tokens ++ token.Mark mark.Desc ∷ [];
+      is = falling p.is;
+      read = λ rest ts s are. at_text _ _ _ _ (sym (append_assoc (ref_text r) (codes " DESC") rest)) (sym (append_assoc p.tokens (token.Mark mark.Desc ∷ []) ts))
+          (p.read (32 ∷ 68 ∷ 69 ∷ 83 ∷ 67 ∷ rest) (token.Mark mark.Desc ∷ ts) refl (space (68 ∷ 69 ∷ 83 ∷ 67 ∷ rest) (token.Mark mark.Desc ∷ ts) (word_mark mark.Desc rest ts refl (stop_name rest s).0 are)));
+    }
+key_of_spelled r false h =
+    let p = ref_spelled r h in
+    record { tokens = p.tokens; is = rising p.is; read = λ rest ts s are. at_text _ _ _ _ (ap (λ z. z ++ rest) (sym (append-nil (ref_text r)))) refl (p.read rest ts s are) }
+
+key_spelled : (x : RawKey) → is_key x ≡ true → Spelled IsKey x (key_text x)
+key_spelled x h = key_of_spelled x.at x.descending h
+
+-- ---- the parts that may be missing
 
 -- a part of the statement that may be missing
 record Optional (Is : List Token → Type 0) (text : List ℕ) : Type 0 where

@@ -3,8 +3,8 @@ use Rattle.std.proofs.Common.{◌≡◌, ℕ, zero, suc, ◌<◌, ◌≤◌, Boo
 use Rattle.std.proofs.lemmas.Bool.{eqb-true}
 use Rattle.std.proofs.lemmas.List.{append_assoc, length-append}
 use Rattle.row_values.specs.declared.values.Value.{Value}
-use Rattle.sql_parser.specs.Grammar.{IsRef, plain, dotted, IsItem, column, count, sum, min, max, IsPlace, bare, called, called_as, IsOperand, literal, parameter, IsTest, less, at_most, greater, at_least, equal, between, IsCond, tested, same, IsKey, rising, rising_asc, falling, AreAll, no_part, part, IsBehind, behind, AreListed, listed, Joined, IsJoined, comma, join, inner_join}
-use Rattle.sql_parser.specs.Reading.{position_of, mark_eq, ◌>>=◌, begins, begins_name, name_at, literal_at, mark_at, ref_at, enclosed_at, count_at, item_at, place_at, operand_at, between_at, test_at, cond_at, key_at, all_at, more_at, list_at, join_at, joined_at}
+use Rattle.sql_parser.specs.Grammar.{IsRef, plain, dotted, IsItem, column, count, sum, min, max, IsPlace, bare, called, called_as, IsOperand, literal, parameter, IsListedOperand, alone, IsTest, less, at_most, greater, at_least, equal, between, one_of, IsCond, tested, same, IsKey, rising, rising_asc, falling, AreAll, no_part, part, IsBehind, behind, AreListed, listed, Joined, IsJoined, comma, join, inner_join}
+use Rattle.sql_parser.specs.Reading.{position_of, mark_eq, ◌>>=◌, begins, begins_name, name_at, literal_at, mark_at, ref_at, enclosed_at, count_at, item_at, place_at, operand_at, between_at, in_at, test_at, cond_at, key_at, all_at, more_at, list_at, join_at, joined_at}
 use Rattle.sql_parser.specs.declared.statement.RawRef.{RawRef}
 use Rattle.sql_parser.specs.declared.statement.RawPlace.{RawPlace}
 use Rattle.sql_parser.specs.declared.statement.RawItem.{RawItem}
@@ -275,6 +275,70 @@ operand_sound tokens x rest e =
 operand_whole : (x : RawOperand) (tokens rest : List Token) (taken : Taken IsOne x tokens rest) → tokens ≡ (taken.is.0 ∷ []) ++ rest
 operand_whole x tokens rest taken = taken.whole ∙ ap (λ z. z ++ rest) taken.is.2
 
+pub all_sound : {T : Type 0} (Is : T → List Token → Type 0) (starts : List Token → Bool) (at : List Token → Option (T × List Token))
+    → ((tokens : List Token) (x : T) (rest : List Token) → starts tokens ≡ true → at tokens ≡ Some (x, rest) → Taken Is x tokens rest)
+    → (n : ℕ) (tokens : List Token) (xs : List T) (rest : List Token) → all_at starts at n tokens ≡ Some (xs, rest) → Taken (AreAll Is) xs tokens rest
+all_sound Is starts at each_sound zero tokens xs rest e = absurd cc
+all_sound {T} Is starts at each_sound (suc n) tokens xs rest e =
+    elim (chosen {A = Option (List T × List Token)} (starts tokens) (at tokens >>= λ x. (all_at starts at n x.1 >>= λ ys. some_pair (x.0 ∷ ys.0) ys.1)) (some_pair [] tokens) (some_pair xs rest) e) [
+      | inl h ↦ (
+          let a = bind_some {B = List T × List Token} (at tokens) (λ x. (all_at starts at n x.1 >>= λ ys. some_pair (x.0 ∷ ys.0) ys.1)) (xs, rest) h.1 in
+          let b = bind_some {B = List T × List Token} (all_at starts at n a.0.1) (λ ys. some_pair (a.0.0 ∷ ys.0) ys.1) (xs, rest) a.2 in
+          let t = each_sound tokens a.0.0 a.0.1 h.0 a.1 in
+          let u = all_sound Is starts at each_sound n a.0.1 b.0.0 b.0.1 b.1 in
+          done_at (AreAll Is) (a.0.0 ∷ b.0.0) tokens b.0.1 xs rest b.2 (record { front = t.front ++ u.front; is = part t.is u.is; whole = seq t.front u.front _ t.whole u.whole }))
+      | inr h ↦ done_at (AreAll Is) [] tokens tokens xs rest h.1 (record { front = []; is = no_part; whole = refl })
+    ]
+
+behind_sound : {T : Type 0} (Is : T → List Token → Type 0) (separator : Mark) (at : List Token → Option (T × List Token))
+    → ((tokens : List Token) (x : T) (rest : List Token) → at tokens ≡ Some (x, rest) → Taken Is x tokens rest)
+    → (tokens : List Token) (x : T) (rest : List Token) → begins separator tokens ≡ true → at (drop 1 tokens) ≡ Some (x, rest) → Taken (IsBehind Is (token.Mark separator)) x tokens rest
+behind_sound Is separator at each_sound tokens x rest b e =
+    let t = each_sound (drop 1 tokens) x rest e in
+    record { front = token.Mark separator ∷ t.front; is = behind t.is; whole = seq (token.Mark separator ∷ []) t.front _ (begins_true separator tokens b) t.whole }
+
+pub list_sound : {T : Type 0} (Is : T → List Token → Type 0) (separator : Mark) (at : List Token → Option (T × List Token))
+    → ((tokens : List Token) (x : T) (rest : List Token) → at tokens ≡ Some (x, rest) → Taken Is x tokens rest)
+    → (tokens : List Token) (xs : List T) (rest : List Token) → list_at separator at tokens ≡ Some (xs, rest) → Taken (AreListed Is (token.Mark separator)) xs tokens rest
+unfolding list_at more_at
+list_sound {T} Is separator at each_sound tokens xs rest e =
+    let a = bind_some {B = List T × List Token} (at tokens) (λ x. (all_at (begins separator) (λ z. at (drop 1 z)) (suc (length x.1)) x.1 >>= λ ys. some_pair (x.0 ∷ ys.0) ys.1)) (xs, rest) e in
+    let b = bind_some {B = List T × List Token} (all_at (begins separator) (λ z. at (drop 1 z)) (suc (length a.0.1)) a.0.1) (λ ys. some_pair (a.0.0 ∷ ys.0) ys.1) (xs, rest) a.2 in
+    let t = each_sound tokens a.0.0 a.0.1 a.1 in
+    let u = all_sound (IsBehind Is (token.Mark separator)) (begins separator) (λ z. at (drop 1 z)) (behind_sound Is separator at each_sound) (suc (length a.0.1)) a.0.1 b.0.0 b.0.1 b.1 in
+    done_at (AreListed Is (token.Mark separator)) (a.0.0 ∷ b.0.0) tokens b.0.1 xs rest b.2 (record { front = t.front ++ u.front; is = listed t.is u.is; whole = seq t.front u.front _ t.whole u.whole })
+
+pub alone_sound : (tokens : List Token) (x : RawOperand) (rest : List Token) → operand_at tokens ≡ Some (x, rest) → Taken IsListedOperand x tokens rest
+alone_sound tokens x rest e =
+    let t = operand_sound tokens x rest e in
+    record { front = t.is.0 ∷ []; is = alone t.is.1; whole = operand_whole x tokens rest t }
+
+pub operands_sound : (tokens : List Token) (xs : List RawOperand) (rest : List Token) → list_at mark.Comma operand_at tokens ≡ Some (xs, rest) → Taken (AreListed IsListedOperand (token.Mark mark.Comma)) xs tokens rest
+operands_sound tokens xs rest e = list_sound IsListedOperand mark.Comma operand_at alone_sound tokens xs rest e
+
+-- there is an operand
+pub some_operand : (xs : List RawOperand) (tokens : List Token) → AreListed IsListedOperand (token.Mark mark.Comma) xs tokens → 0 < length xs
+some_operand xs tokens (listed is are) = omega arith
+
+in_sound : (tokens : List Token) (x : RawTest) (rest : List Token) → begins mark.In tokens ≡ true → in_at (drop 1 tokens) ≡ Some (x, rest) → Taken IsTest x tokens rest
+unfolding in_at
+in_sound tokens x rest b e =
+    let open__ = bind_some {B = RawTest × List Token} (mark_at mark.Open (drop 1 tokens)) (λ open_. (list_at mark.Comma operand_at open_.1 >>= λ xs. (mark_at mark.Close xs.1 >>= λ close. (some_pair (test.OneOf xs.0) (close.1))))) (x, rest) (e) in
+    let open_ = open__.0 in
+    let open__w = mark_taken mark.Open (drop 1 tokens) open_.1 open_.0 open__.1 in
+    let xs_ = bind_some {B = RawTest × List Token} (list_at mark.Comma operand_at open_.1) (λ xs. (mark_at mark.Close xs.1 >>= λ close. (some_pair (test.OneOf xs.0) (close.1)))) (x, rest) (open__.2) in
+    let xs = xs_.0 in
+    let xs_t = operands_sound open_.1 xs.0 xs.1 xs_.1 in
+    let close_ = bind_some {B = RawTest × List Token} (mark_at mark.Close xs.1) (λ close. (some_pair (test.OneOf xs.0) (close.1))) (x, rest) (xs_.2) in
+    let close = close_.0 in
+    let close_w = mark_taken mark.Close (xs.1) close.1 close.0 close_.1 in
+    done_at (IsTest) (test.OneOf xs.0) tokens (close.1) x rest (close_.2) (record {
+      front = token.Mark mark.In ∷ token.Mark mark.Open ∷ (xs_t.front ++ token.Mark mark.Close ∷ []);
+      is = one_of xs_t.is;
+      whole = seq (token.Mark mark.In ∷ []) (token.Mark mark.Open ∷ (xs_t.front ++ token.Mark mark.Close ∷ [])) _ (begins_true mark.In tokens b)
+          (seq (token.Mark mark.Open ∷ []) (xs_t.front ++ token.Mark mark.Close ∷ []) _ open__w (seq xs_t.front (token.Mark mark.Close ∷ []) _ xs_t.whole close_w));
+    })
+
 pub between_sound : (tokens : List Token) (x : RawTest) (rest : List Token) → between_at tokens ≡ Some (x, rest) → Taken (IsTest) x tokens rest
 unfolding between_at
 between_sound tokens x rest e =
@@ -303,32 +367,35 @@ compared make m is tokens x rest b taken = record {
 pub test_sound : (tokens : List Token) (x : RawTest) (rest : List Token) → test_at tokens ≡ Some (x, rest) → Taken (IsTest) x tokens rest
 unfolding test_at
 test_sound tokens x rest e =
-    elim (chosen {A = Option (RawTest × List Token)} (begins mark.Less tokens) (operand_at (drop 1 tokens) >>= λ o. (some_pair (test.Lt o.0) (o.1))) (cond (begins mark.AtMost tokens) (operand_at (drop 1 tokens) >>= λ o. (some_pair (test.Le o.0) (o.1))) (cond (begins mark.Greater tokens) (operand_at (drop 1 tokens) >>= λ o. (some_pair (test.Gt o.0) (o.1))) (cond (begins mark.AtLeast tokens) (operand_at (drop 1 tokens) >>= λ o. (some_pair (test.Ge o.0) (o.1))) (cond (begins mark.Equals tokens) (operand_at (drop 1 tokens) >>= λ o. (some_pair (test.Eq o.0) (o.1))) (between_at tokens))))) (some_pair x rest) (e)) [
+    elim (chosen {A = Option (RawTest × List Token)} (begins mark.Less tokens) (operand_at (drop 1 tokens) >>= λ o. (some_pair (test.Lt o.0) (o.1))) (cond (begins mark.AtMost tokens) (operand_at (drop 1 tokens) >>= λ o. (some_pair (test.Le o.0) (o.1))) (cond (begins mark.Greater tokens) (operand_at (drop 1 tokens) >>= λ o. (some_pair (test.Gt o.0) (o.1))) (cond (begins mark.AtLeast tokens) (operand_at (drop 1 tokens) >>= λ o. (some_pair (test.Ge o.0) (o.1))) (cond (begins mark.Equals tokens) (operand_at (drop 1 tokens) >>= λ o. (some_pair (test.Eq o.0) (o.1))) (cond (begins mark.In tokens) (in_at (drop 1 tokens)) (between_at tokens)))))) (some_pair x rest) (e)) [
       | inl h1 ↦ (let o_ = bind_some {B = RawTest × List Token} (operand_at (drop 1 tokens)) (λ o. (some_pair (test.Lt o.0) (o.1))) (x, rest) (h1.1) in
           let o = o_.0 in
           let o_t = operand_sound (drop 1 tokens) o.0 o.1 o_.1 in
           done_at (IsTest) (test.Lt o.0) tokens (o.1) x rest (o_.2) (compared test.Lt mark.Less (λ x t h. less h) tokens o.0 o.1 h1.0 o_t))
-      | inr h1 ↦ (elim (chosen {A = Option (RawTest × List Token)} (begins mark.AtMost tokens) (operand_at (drop 1 tokens) >>= λ o. (some_pair (test.Le o.0) (o.1))) (cond (begins mark.Greater tokens) (operand_at (drop 1 tokens) >>= λ o. (some_pair (test.Gt o.0) (o.1))) (cond (begins mark.AtLeast tokens) (operand_at (drop 1 tokens) >>= λ o. (some_pair (test.Ge o.0) (o.1))) (cond (begins mark.Equals tokens) (operand_at (drop 1 tokens) >>= λ o. (some_pair (test.Eq o.0) (o.1))) (between_at tokens)))) (some_pair x rest) (h1.1)) [
+      | inr h1 ↦ (elim (chosen {A = Option (RawTest × List Token)} (begins mark.AtMost tokens) (operand_at (drop 1 tokens) >>= λ o. (some_pair (test.Le o.0) (o.1))) (cond (begins mark.Greater tokens) (operand_at (drop 1 tokens) >>= λ o. (some_pair (test.Gt o.0) (o.1))) (cond (begins mark.AtLeast tokens) (operand_at (drop 1 tokens) >>= λ o. (some_pair (test.Ge o.0) (o.1))) (cond (begins mark.Equals tokens) (operand_at (drop 1 tokens) >>= λ o. (some_pair (test.Eq o.0) (o.1))) (cond (begins mark.In tokens) (in_at (drop 1 tokens)) (between_at tokens))))) (some_pair x rest) (h1.1)) [
         | inl h3 ↦ (let o_ = bind_some {B = RawTest × List Token} (operand_at (drop 1 tokens)) (λ o. (some_pair (test.Le o.0) (o.1))) (x, rest) (h3.1) in
             let o = o_.0 in
             let o_t = operand_sound (drop 1 tokens) o.0 o.1 o_.1 in
             done_at (IsTest) (test.Le o.0) tokens (o.1) x rest (o_.2) (compared test.Le mark.AtMost (λ x t h. at_most h) tokens o.0 o.1 h3.0 o_t))
-        | inr h3 ↦ (elim (chosen {A = Option (RawTest × List Token)} (begins mark.Greater tokens) (operand_at (drop 1 tokens) >>= λ o. (some_pair (test.Gt o.0) (o.1))) (cond (begins mark.AtLeast tokens) (operand_at (drop 1 tokens) >>= λ o. (some_pair (test.Ge o.0) (o.1))) (cond (begins mark.Equals tokens) (operand_at (drop 1 tokens) >>= λ o. (some_pair (test.Eq o.0) (o.1))) (between_at tokens))) (some_pair x rest) (h3.1)) [
+        | inr h3 ↦ (elim (chosen {A = Option (RawTest × List Token)} (begins mark.Greater tokens) (operand_at (drop 1 tokens) >>= λ o. (some_pair (test.Gt o.0) (o.1))) (cond (begins mark.AtLeast tokens) (operand_at (drop 1 tokens) >>= λ o. (some_pair (test.Ge o.0) (o.1))) (cond (begins mark.Equals tokens) (operand_at (drop 1 tokens) >>= λ o. (some_pair (test.Eq o.0) (o.1))) (cond (begins mark.In tokens) (in_at (drop 1 tokens)) (between_at tokens)))) (some_pair x rest) (h3.1)) [
           | inl h5 ↦ (let o_ = bind_some {B = RawTest × List Token} (operand_at (drop 1 tokens)) (λ o. (some_pair (test.Gt o.0) (o.1))) (x, rest) (h5.1) in
               let o = o_.0 in
               let o_t = operand_sound (drop 1 tokens) o.0 o.1 o_.1 in
               done_at (IsTest) (test.Gt o.0) tokens (o.1) x rest (o_.2) (compared test.Gt mark.Greater (λ x t h. greater h) tokens o.0 o.1 h5.0 o_t))
-          | inr h5 ↦ (elim (chosen {A = Option (RawTest × List Token)} (begins mark.AtLeast tokens) (operand_at (drop 1 tokens) >>= λ o. (some_pair (test.Ge o.0) (o.1))) (cond (begins mark.Equals tokens) (operand_at (drop 1 tokens) >>= λ o. (some_pair (test.Eq o.0) (o.1))) (between_at tokens)) (some_pair x rest) (h5.1)) [
+          | inr h5 ↦ (elim (chosen {A = Option (RawTest × List Token)} (begins mark.AtLeast tokens) (operand_at (drop 1 tokens) >>= λ o. (some_pair (test.Ge o.0) (o.1))) (cond (begins mark.Equals tokens) (operand_at (drop 1 tokens) >>= λ o. (some_pair (test.Eq o.0) (o.1))) (cond (begins mark.In tokens) (in_at (drop 1 tokens)) (between_at tokens))) (some_pair x rest) (h5.1)) [
             | inl h7 ↦ (let o_ = bind_some {B = RawTest × List Token} (operand_at (drop 1 tokens)) (λ o. (some_pair (test.Ge o.0) (o.1))) (x, rest) (h7.1) in
                 let o = o_.0 in
                 let o_t = operand_sound (drop 1 tokens) o.0 o.1 o_.1 in
                 done_at (IsTest) (test.Ge o.0) tokens (o.1) x rest (o_.2) (compared test.Ge mark.AtLeast (λ x t h. at_least h) tokens o.0 o.1 h7.0 o_t))
-            | inr h7 ↦ (elim (chosen {A = Option (RawTest × List Token)} (begins mark.Equals tokens) (operand_at (drop 1 tokens) >>= λ o. (some_pair (test.Eq o.0) (o.1))) (between_at tokens) (some_pair x rest) (h7.1)) [
+            | inr h7 ↦ (elim (chosen {A = Option (RawTest × List Token)} (begins mark.Equals tokens) (operand_at (drop 1 tokens) >>= λ o. (some_pair (test.Eq o.0) (o.1))) (cond (begins mark.In tokens) (in_at (drop 1 tokens)) (between_at tokens)) (some_pair x rest) (h7.1)) [
               | inl h9 ↦ (let o_ = bind_some {B = RawTest × List Token} (operand_at (drop 1 tokens)) (λ o. (some_pair (test.Eq o.0) (o.1))) (x, rest) (h9.1) in
                   let o = o_.0 in
                   let o_t = operand_sound (drop 1 tokens) o.0 o.1 o_.1 in
                   done_at (IsTest) (test.Eq o.0) tokens (o.1) x rest (o_.2) (compared test.Eq mark.Equals (λ x t h. equal h) tokens o.0 o.1 h9.0 o_t))
-              | inr h9 ↦ (between_sound tokens x rest (h9.1))
+              | inr h9 ↦ (elim (chosen {A = Option (RawTest × List Token)} (begins mark.In tokens) (in_at (drop 1 tokens)) (between_at tokens) (some_pair x rest) (h9.1)) [
+                | inl h11 ↦ (in_sound tokens x rest h11.0 h11.1)
+                | inr h11 ↦ (between_sound tokens x rest (h11.1))
+              ])
             ])
           ])
         ])
@@ -371,39 +438,6 @@ key_sound tokens x rest e =
         | inr h3 ↦ (done_at (IsKey) (record { at = r.0; descending = false }) tokens (r.1) x rest (h3.1) (record { front = r_t.front; is = rising r_t.is; whole = r_t.whole }))
       ])
     ]
-
-pub all_sound : {T : Type 0} (Is : T → List Token → Type 0) (starts : List Token → Bool) (at : List Token → Option (T × List Token))
-    → ((tokens : List Token) (x : T) (rest : List Token) → starts tokens ≡ true → at tokens ≡ Some (x, rest) → Taken Is x tokens rest)
-    → (n : ℕ) (tokens : List Token) (xs : List T) (rest : List Token) → all_at starts at n tokens ≡ Some (xs, rest) → Taken (AreAll Is) xs tokens rest
-all_sound Is starts at each_sound zero tokens xs rest e = absurd cc
-all_sound {T} Is starts at each_sound (suc n) tokens xs rest e =
-    elim (chosen {A = Option (List T × List Token)} (starts tokens) (at tokens >>= λ x. (all_at starts at n x.1 >>= λ ys. some_pair (x.0 ∷ ys.0) ys.1)) (some_pair [] tokens) (some_pair xs rest) e) [
-      | inl h ↦ (
-          let a = bind_some {B = List T × List Token} (at tokens) (λ x. (all_at starts at n x.1 >>= λ ys. some_pair (x.0 ∷ ys.0) ys.1)) (xs, rest) h.1 in
-          let b = bind_some {B = List T × List Token} (all_at starts at n a.0.1) (λ ys. some_pair (a.0.0 ∷ ys.0) ys.1) (xs, rest) a.2 in
-          let t = each_sound tokens a.0.0 a.0.1 h.0 a.1 in
-          let u = all_sound Is starts at each_sound n a.0.1 b.0.0 b.0.1 b.1 in
-          done_at (AreAll Is) (a.0.0 ∷ b.0.0) tokens b.0.1 xs rest b.2 (record { front = t.front ++ u.front; is = part t.is u.is; whole = seq t.front u.front _ t.whole u.whole }))
-      | inr h ↦ done_at (AreAll Is) [] tokens tokens xs rest h.1 (record { front = []; is = no_part; whole = refl })
-    ]
-
-behind_sound : {T : Type 0} (Is : T → List Token → Type 0) (separator : Mark) (at : List Token → Option (T × List Token))
-    → ((tokens : List Token) (x : T) (rest : List Token) → at tokens ≡ Some (x, rest) → Taken Is x tokens rest)
-    → (tokens : List Token) (x : T) (rest : List Token) → begins separator tokens ≡ true → at (drop 1 tokens) ≡ Some (x, rest) → Taken (IsBehind Is (token.Mark separator)) x tokens rest
-behind_sound Is separator at each_sound tokens x rest b e =
-    let t = each_sound (drop 1 tokens) x rest e in
-    record { front = token.Mark separator ∷ t.front; is = behind t.is; whole = seq (token.Mark separator ∷ []) t.front _ (begins_true separator tokens b) t.whole }
-
-pub list_sound : {T : Type 0} (Is : T → List Token → Type 0) (separator : Mark) (at : List Token → Option (T × List Token))
-    → ((tokens : List Token) (x : T) (rest : List Token) → at tokens ≡ Some (x, rest) → Taken Is x tokens rest)
-    → (tokens : List Token) (xs : List T) (rest : List Token) → list_at separator at tokens ≡ Some (xs, rest) → Taken (AreListed Is (token.Mark separator)) xs tokens rest
-unfolding list_at more_at
-list_sound {T} Is separator at each_sound tokens xs rest e =
-    let a = bind_some {B = List T × List Token} (at tokens) (λ x. (all_at (begins separator) (λ z. at (drop 1 z)) (suc (length x.1)) x.1 >>= λ ys. some_pair (x.0 ∷ ys.0) ys.1)) (xs, rest) e in
-    let b = bind_some {B = List T × List Token} (all_at (begins separator) (λ z. at (drop 1 z)) (suc (length a.0.1)) a.0.1) (λ ys. some_pair (a.0.0 ∷ ys.0) ys.1) (xs, rest) a.2 in
-    let t = each_sound tokens a.0.0 a.0.1 a.1 in
-    let u = all_sound (IsBehind Is (token.Mark separator)) (begins separator) (λ z. at (drop 1 z)) (behind_sound Is separator at each_sound) (suc (length a.0.1)) a.0.1 b.0.0 b.0.1 b.1 in
-    done_at (AreListed Is (token.Mark separator)) (a.0.0 ∷ b.0.0) tokens b.0.1 xs rest b.2 (record { front = t.front ++ u.front; is = listed t.is u.is; whole = seq t.front u.front _ t.whole u.whole })
 
 pub taken_shorter : {T : Type 0} (Is : T → List Token → Type 0) (x : T) (tokens rest : List Token) → Taken Is x tokens rest → length rest ≤ length tokens
 taken_shorter Is x tokens rest taken = let n = ap length taken.whole ∙ length-append taken.front rest in omega arith

@@ -41,21 +41,6 @@ operand_text (operand.Literal (Int number)) = signed_decimal number
 operand_text (operand.Literal (Text text)) = quoted 39 text
 operand_text operand.Param = codes "?"
 
-abbrev pub test_text : RawTest → List ℕ
-test_text (test.Lt x) = codes " < " ++ operand_text x
-test_text (test.Le x) = codes " <= " ++ operand_text x
-test_text (test.Gt x) = codes " > " ++ operand_text x
-test_text (test.Ge x) = codes " >= " ++ operand_text x
-test_text (test.Eq x) = codes " = " ++ operand_text x
-test_text (test.Between low high) = codes " BETWEEN " ++ operand_text low ++ codes " AND " ++ operand_text high
-
-abbrev pub cond_text : RawCond → List ℕ
-cond_text (cond.Test r t) = ref_text r ++ test_text t
-cond_text (cond.Same r s) = ref_text r ++ codes " = " ++ ref_text s
-
-abbrev pub key_text : RawKey → List ℕ
-key_text key = ref_text key.at ++ (if key.descending then codes " DESC" else [])
-
 -- parts, each behind a separator
 abbrev pub behind_text : {T : Type 0} → List ℕ → (T → List ℕ) → List T → List ℕ
 behind_text separator text [] = []
@@ -65,6 +50,22 @@ behind_text separator text (x ∷ xs) = separator ++ text x ++ behind_text separ
 abbrev pub listed_text : {T : Type 0} → List ℕ → List ℕ → (T → List ℕ) → List T → List ℕ
 listed_text word separator text [] = []
 listed_text word separator text (x ∷ xs) = word ++ text x ++ behind_text separator text xs
+
+abbrev pub test_text : RawTest → List ℕ
+test_text (test.Lt x) = codes " < " ++ operand_text x
+test_text (test.Le x) = codes " <= " ++ operand_text x
+test_text (test.Gt x) = codes " > " ++ operand_text x
+test_text (test.Ge x) = codes " >= " ++ operand_text x
+test_text (test.Eq x) = codes " = " ++ operand_text x
+test_text (test.Between low high) = codes " BETWEEN " ++ operand_text low ++ codes " AND " ++ operand_text high
+test_text (test.OneOf operands) = listed_text (codes " IN (") (codes ", ") operand_text operands ++ codes ")"
+
+abbrev pub cond_text : RawCond → List ℕ
+cond_text (cond.Test r t) = ref_text r ++ test_text t
+cond_text (cond.Same r s) = ref_text r ++ codes " = " ++ ref_text s
+
+abbrev pub key_text : RawKey → List ℕ
+key_text key = ref_text key.at ++ (if key.descending then codes " DESC" else [])
 
 abbrev pub canonical_text : Parts → List ℕ
 canonical_text s =

@@ -42,27 +42,6 @@ pub data IsOperand : RawOperand → Token → Type 0 where
   literal : {value : Value} → IsOperand (operand.Literal value) (Literal value)
   parameter : IsOperand operand.Param (Mark mark.Question)
 
--- op operand | BETWEEN operand AND operand
-pub data IsTest : RawTest → List Token → Type 0 where
-  less : {x : RawOperand} {t : Token} → IsOperand x t → IsTest (test.Lt x) (Mark mark.Less ∷ t ∷ [])
-  at_most : {x : RawOperand} {t : Token} → IsOperand x t → IsTest (test.Le x) (Mark mark.AtMost ∷ t ∷ [])
-  greater : {x : RawOperand} {t : Token} → IsOperand x t → IsTest (test.Gt x) (Mark mark.Greater ∷ t ∷ [])
-  at_least : {x : RawOperand} {t : Token} → IsOperand x t → IsTest (test.Ge x) (Mark mark.AtLeast ∷ t ∷ [])
-  equal : {x : RawOperand} {t : Token} → IsOperand x t → IsTest (test.Eq x) (Mark mark.Equals ∷ t ∷ [])
-  between : {x y : RawOperand} {t u : Token} → IsOperand x t → IsOperand y u
-      → IsTest (test.Between x y) (Mark mark.Between ∷ t ∷ Mark mark.And ∷ u ∷ [])
-
--- cond = ref op operand | ref "=" ref | ref BETWEEN operand AND operand
-pub data IsCond : RawCond → List Token → Type 0 where
-  tested : {r : RawRef} {t : RawTest} {ref rest : List Token} → IsRef r ref → IsTest t rest → IsCond (cond.Test r t) (ref ++ rest)
-  same : {r s : RawRef} {left right : List Token} → IsRef r left → IsRef s right → IsCond (cond.Same r s) (left ++ Mark mark.Equals ∷ right)
-
--- key = ref [ASC | DESC]
-pub data IsKey : RawKey → List Token → Type 0 where
-  rising : {r : RawRef} {ref : List Token} → IsRef r ref → IsKey (record { at = r; descending = false }) ref
-  rising_asc : {r : RawRef} {ref : List Token} → IsRef r ref → IsKey (record { at = r; descending = false }) (ref ++ Mark mark.Asc ∷ [])
-  falling : {r : RawRef} {ref : List Token} → IsRef r ref → IsKey (record { at = r; descending = true }) (ref ++ Mark mark.Desc ∷ [])
-
 -- {part}
 pub data AreAll {T : Type 0} (Is : T → List Token → Type 0) : List T → List Token → Type 0 where
   no_part : AreAll Is [] []
@@ -76,6 +55,33 @@ pub data IsBehind {T : Type 0} (Is : T → List Token → Type 0) (separator : T
 pub data AreListed {T : Type 0} (Is : T → List Token → Type 0) (separator : Token) : List T → List Token → Type 0 where
   listed : {x : T} {xs : List T} {first rest : List Token} → Is x first → AreAll (IsBehind Is separator) xs rest
       → AreListed Is separator (x ∷ xs) (first ++ rest)
+
+-- operand, as a part of a list
+pub data IsListedOperand : RawOperand → List Token → Type 0 where
+  alone : {x : RawOperand} {t : Token} → IsOperand x t → IsListedOperand x (t ∷ [])
+
+-- op operand | BETWEEN operand AND operand | IN "(" operand {"," operand} ")"
+pub data IsTest : RawTest → List Token → Type 0 where
+  less : {x : RawOperand} {t : Token} → IsOperand x t → IsTest (test.Lt x) (Mark mark.Less ∷ t ∷ [])
+  at_most : {x : RawOperand} {t : Token} → IsOperand x t → IsTest (test.Le x) (Mark mark.AtMost ∷ t ∷ [])
+  greater : {x : RawOperand} {t : Token} → IsOperand x t → IsTest (test.Gt x) (Mark mark.Greater ∷ t ∷ [])
+  at_least : {x : RawOperand} {t : Token} → IsOperand x t → IsTest (test.Ge x) (Mark mark.AtLeast ∷ t ∷ [])
+  equal : {x : RawOperand} {t : Token} → IsOperand x t → IsTest (test.Eq x) (Mark mark.Equals ∷ t ∷ [])
+  between : {x y : RawOperand} {t u : Token} → IsOperand x t → IsOperand y u
+      → IsTest (test.Between x y) (Mark mark.Between ∷ t ∷ Mark mark.And ∷ u ∷ [])
+  one_of : {xs : List RawOperand} {operands : List Token} → AreListed IsListedOperand (Mark mark.Comma) xs operands
+      → IsTest (test.OneOf xs) (Mark mark.In ∷ Mark mark.Open ∷ (operands ++ Mark mark.Close ∷ []))
+
+-- cond = ref op operand | ref "=" ref | ref BETWEEN operand AND operand | ref IN "(" operand {"," operand} ")"
+pub data IsCond : RawCond → List Token → Type 0 where
+  tested : {r : RawRef} {t : RawTest} {ref rest : List Token} → IsRef r ref → IsTest t rest → IsCond (cond.Test r t) (ref ++ rest)
+  same : {r s : RawRef} {left right : List Token} → IsRef r left → IsRef s right → IsCond (cond.Same r s) (left ++ Mark mark.Equals ∷ right)
+
+-- key = ref [ASC | DESC]
+pub data IsKey : RawKey → List Token → Type 0 where
+  rising : {r : RawRef} {ref : List Token} → IsRef r ref → IsKey (record { at = r; descending = false }) ref
+  rising_asc : {r : RawRef} {ref : List Token} → IsRef r ref → IsKey (record { at = r; descending = false }) (ref ++ Mark mark.Asc ∷ [])
+  falling : {r : RawRef} {ref : List Token} → IsRef r ref → IsKey (record { at = r; descending = true }) (ref ++ Mark mark.Desc ∷ [])
 
 -- a further place, with the conditions that stand behind it
 pub record Joined : Type 0 where

@@ -161,6 +161,24 @@ operand_at tokens =
       value ← literal_at tokens
       Some (operand.Literal value.0, value.1))
 
+-- as many parts as begin so, at most this many
+abbrev pub all_at : {T : Type 0} → (List Token → Bool) → (List Token → Option (T × List Token)) → ℕ → List Token → Option (List T × List Token)
+all_at starts at zero tokens = None
+all_at starts at (suc n) tokens = if starts tokens
+    then (at tokens >>= λ x. (all_at starts at n x.1 >>= λ xs. Some (x.0 ∷ xs.0, xs.1)))
+    else Some ([], tokens)
+
+-- parts behind a separator, as many as there are
+unfoldable pub more_at : {T : Type 0} → Mark → (List Token → Option (T × List Token)) → List Token → Option (List T × List Token)
+more_at separator at tokens = all_at (begins separator) (λ rest. at (drop 1 rest)) (suc (length tokens)) tokens
+
+-- a part, and more behind a separator
+unfoldable pub list_at : {T : Type 0} → Mark → (List Token → Option (T × List Token)) → List Token → Option (List T × List Token)
+list_at separator at tokens = do
+  x ← at tokens
+  xs ← more_at separator at x.1
+  Some (x.0 ∷ xs.0, xs.1)
+
 -- BETWEEN operand AND operand
 unfoldable pub between_at : List Token → Option (RawTest × List Token)
 between_at tokens = do
@@ -169,6 +187,14 @@ between_at tokens = do
   and ← mark_at mark.And low.1
   high ← operand_at and.1
   Some (test.Between low.0 high.0, high.1)
+
+-- "(" operand {"," operand} ")"
+unfoldable pub in_at : List Token → Option (RawTest × List Token)
+in_at tokens = do
+  open_ ← mark_at mark.Open tokens
+  operands ← list_at mark.Comma operand_at open_.1
+  close ← mark_at mark.Close operands.1
+  Some (test.OneOf operands.0, close.1)
 
 unfoldable pub test_at : List Token → Option (RawTest × List Token)
 test_at tokens =
@@ -187,6 +213,7 @@ test_at tokens =
     if begins mark.Equals tokens then (do
       x ← operand_at (drop 1 tokens)
       Some (test.Eq x.0, x.1)) else
+    if begins mark.In tokens then in_at (drop 1 tokens) else
     between_at tokens
 
 unfoldable pub cond_at : List Token → Option (RawCond × List Token)
@@ -210,24 +237,6 @@ key_at tokens = do
   if begins mark.Desc r.1 then Some (record { at = r.0; descending = true }, drop 1 r.1) else
       (if begins mark.Asc r.1 then Some (record { at = r.0; descending = false }, drop 1 r.1) else
       Some (record { at = r.0; descending = false }, r.1))
-
--- as many parts as begin so, at most this many
-abbrev pub all_at : {T : Type 0} → (List Token → Bool) → (List Token → Option (T × List Token)) → ℕ → List Token → Option (List T × List Token)
-all_at starts at zero tokens = None
-all_at starts at (suc n) tokens = if starts tokens
-    then (at tokens >>= λ x. (all_at starts at n x.1 >>= λ xs. Some (x.0 ∷ xs.0, xs.1)))
-    else Some ([], tokens)
-
--- parts behind a separator, as many as there are
-unfoldable pub more_at : {T : Type 0} → Mark → (List Token → Option (T × List Token)) → List Token → Option (List T × List Token)
-more_at separator at tokens = all_at (begins separator) (λ rest. at (drop 1 rest)) (suc (length tokens)) tokens
-
--- a part, and more behind a separator
-unfoldable pub list_at : {T : Type 0} → Mark → (List Token → Option (T × List Token)) → List Token → Option (List T × List Token)
-list_at separator at tokens = do
-  x ← at tokens
-  xs ← more_at separator at x.1
-  Some (x.0 ∷ xs.0, xs.1)
 
 abbrev pub begins_joined : List Token → Bool
 begins_joined tokens = begins mark.Comma tokens || begins mark.Inner tokens || begins mark.Join tokens

@@ -71,6 +71,7 @@ is_test (test.Gt x) = is_operand x
 is_test (test.Ge x) = is_operand x
 is_test (test.Eq x) = is_operand x
 is_test (test.Between low high) = is_operand low && is_operand high
+is_test (test.OneOf operands) = is_some operands && each is_operand operands
 
 abbrev pub is_cond : RawCond → Bool
 is_cond (cond.Test r t) = is_ref r && is_test t

@@ -16,5 +16,7 @@ mod tokens;
 pub use faults::ParseFault;
 pub use parsing::parse;
 pub use printing::print;
-pub use statement::{RawCond, RawItem, RawKey, RawOperand, RawPlace, RawRef, RawTest, Select};
+pub use statement::{
+    RawCond, RawItem, RawKey, RawOperand, RawOperands, RawPlace, RawRef, RawTest, Select,
+};
 pub use tokens::{Mark, Token, take_token};

@@ -99,6 +99,25 @@ fn push_compared(
     Ok(())
 }
 
+/// Writes these with a separator between two, behind a word; nothing where there is none.
+fn push_operands(
+    alloc: Global,
+    out: &mut String,
+    word: &str,
+    separator: &str,
+    operands: &[RawOperand],
+) -> Result<(), AllocError>
+    ensures { OnOk result (string_bytes out.new ≡ string_bytes out.old ++ spelled.listed_text word.now separator.now spelled.operand_text operands.now) }
+{
+    let mut before = word;
+    for part in operands {
+        out.push_str(before)?;
+        push_operand(alloc, out, part)?;
+        before = separator;
+    }
+    Ok(())
+}
+
 /// Writes a test.
 fn push_test(alloc: Global, out: &mut String, test: &RawTest) -> Result<(), AllocError>
     ensures { OnOk result (string_bytes out.new ≡ string_bytes out.old ++ spelled.test_text test.now) }
@@ -112,6 +131,11 @@ fn push_test(alloc: Global, out: &mut String, test: &RawTest) -> Result<(), Allo
         RawTest::Between(low, high) => {
             push_compared(alloc, out, " BETWEEN ", low)?;
             push_compared(alloc, out, " AND ", high)?;
+            Ok(())
+        }
+        RawTest::OneOf(operands) => {
+            push_operands(alloc, out, " IN (", ", ", operands.as_slice())?;
+            out.push_str(")")?;
             Ok(())
         }
     }

@@ -9,7 +9,9 @@ ghost use Rattle.sql_parser.specs.declared.tokens.Mark.TheVariants as mark;
 ghost use Rattle.sql_parser.specs.Reading as read;
 
 use crate::faults::ParseFault;
-use crate::statement::{RawCond, RawItem, RawKey, RawOperand, RawPlace, RawRef, RawTest, Select};
+use crate::statement::{
+    RawCond, RawItem, RawKey, RawOperand, RawOperands, RawPlace, RawRef, RawTest, Select,
+};
 use crate::tokens::{Mark, Token};
 use row_values::{Value, Words};
 use std::alloc::Global;
@@ -185,9 +187,34 @@ fn take_between(tokens: &mut VecDeque<Token>) -> Result<RawTest, ParseFault>
     Ok(RawTest::Between(low, high))
 }
 
+/// Takes operands, a comma between two.
+fn take_operands(alloc: Global, tokens: &mut VecDeque<Token>) -> Result<Vec<RawOperand>, ParseFault>
+    ensures { read.Gives (λ v. v.items) result tokens.new.items (read.list_at mark.Comma read.operand_at tokens.old.items) }
+{
+    let mut operands = Vec::new(alloc);
+    let first = take_operand(tokens)?;
+    operands.push(first)?;
+    while accept(tokens, Mark::Comma) {
+        let next = take_operand(tokens)?;
+        operands.push(next)?;
+    }
+    Ok(operands)
+}
+
+/// Takes what stands behind IN.
+#[tactic(auto, unfolding(crate::specs::Reading::in_at))]
+fn take_in(alloc: Global, tokens: &mut VecDeque<Token>) -> Result<RawTest, ParseFault>
+    ensures { read.Gives (λ x. x) result tokens.new.items (read.in_at tokens.old.items) }
+{
+    expect(tokens, Mark::Open)?;
+    let operands = take_operands(alloc, tokens)?;
+    expect(tokens, Mark::Close)?;
+    Ok(RawTest::OneOf(RawOperands::of(operands)))
+}
+
 /// Takes the test of a predicate.
 #[tactic(auto, unfolding(crate::specs::Reading::test_at))]
-fn take_test(tokens: &mut VecDeque<Token>) -> Result<RawTest, ParseFault>
+fn take_test(alloc: Global, tokens: &mut VecDeque<Token>) -> Result<RawTest, ParseFault>
     ensures { read.Gives (λ x. x) result tokens.new.items (read.test_at tokens.old.items) }
 {
     if accept(tokens, Mark::Less) {
@@ -205,12 +232,15 @@ fn take_test(tokens: &mut VecDeque<Token>) -> Result<RawTest, ParseFault>
     if accept(tokens, Mark::Equals) {
         return Ok(RawTest::Eq(take_operand(tokens)?));
     }
+    if accept(tokens, Mark::In) {
+        return take_in(alloc, tokens);
+    }
     take_between(tokens)
 }
 
 /// Takes a condition.
 #[tactic(auto, unfolding(crate::specs::Reading::cond_at))]
-fn take_cond(tokens: &mut VecDeque<Token>) -> Result<RawCond, ParseFault>
+fn take_cond(alloc: Global, tokens: &mut VecDeque<Token>) -> Result<RawCond, ParseFault>
     ensures { read.Gives (λ x. x) result tokens.new.items (read.cond_at tokens.old.items) }
 {
     let left = take_ref(tokens)?;
@@ -222,7 +252,7 @@ fn take_cond(tokens: &mut VecDeque<Token>) -> Result<RawCond, ParseFault>
         let operand = take_operand(tokens)?;
         return Ok(RawCond::Test(left, RawTest::Eq(operand)));
     }
-    let test = take_test(tokens)?;
+    let test = take_test(alloc, tokens)?;
     Ok(RawCond::Test(left, test))
 }
 
@@ -264,10 +294,10 @@ fn take_conds(alloc: Global, tokens: &mut VecDeque<Token>) -> Result<Vec<RawCond
     ensures { read.Gives (λ v. v.items) result tokens.new.items (read.list_at mark.And read.cond_at tokens.old.items) }
 {
     let mut conds = Vec::new(alloc);
-    let first = take_cond(tokens)?;
+    let first = take_cond(alloc, tokens)?;
     conds.push(first)?;
-    while accept(tokens, Mark::And) {
-        let next = take_cond(tokens)?;
+    'conds: while accept(tokens, Mark::And) {
+        let next = take_cond(alloc, tokens)?;
         conds.push(next)?;
     }
     Ok(conds)

@@ -3,7 +3,7 @@
 //! Every `Select` has an item and a place, and no name in it is empty, as no statement spells another; so each has
 //! a spelling. `parse` is the one way in.
 //! To add a part, add it here, a production to `specs/Grammar.antt`, and its canonical spelling to `specs/Canonical.antt`.
-ghost use Rattle.std.specs.Prelude.{◌≡◌};
+ghost use Rattle.std.specs.Prelude.{◌≡◌, ◌<◌, length};
 ghost use Rattle.sql_parser.specs.Statement.{IsSound};
 
 use row_values::{Value, Words};
@@ -40,8 +40,43 @@ pub enum RawOperand {
     Param,
 }
 
+/// What an IN compares its column with; contracts see the list, which is as long as the text makes it.
+#[derive(Debug, Drop)]
+pub struct RawOperands {
+    parts: Vec<RawOperand>,
+}
+
+impl Model for RawOperands {
+    ghost use Rattle.std.specs.Prelude.{◌<◌, List, length};
+    ghost use Rattle.sql_parser.specs.declared.statement.RawOperand.{RawOperand};
+
+    ghost Value = { List RawOperand };
+
+    ghost view = { λ s. s.parts.items };
+
+    ghost invariant = { λ s. 0 < length s.parts.items };
+}
+
+impl RawOperands {
+    /// These operands. It takes no memory.
+    pub(crate) fn of(parts: Vec<RawOperand>) -> RawOperands
+        requires { 0 < length parts.items }
+        ensures { result ≡ parts.items }
+    {
+        RawOperands { parts }
+    }
+
+    /// The operands in text order; there is one.
+    pub fn as_slice(&self) -> &[RawOperand]
+        ensures value { result.now ≡ self.now }
+        ensures some { 0 < length self.now }
+    {
+        self.parts.as_slice()
+    }
+}
+
 /// The test that a predicate makes of its column; both ends of BETWEEN are taken.
-#[derive(Debug, Drop, PartialEq, Eq)]
+#[derive(Debug, Drop)]
 pub enum RawTest {
     Lt(RawOperand),
     Le(RawOperand),
@@ -49,10 +84,11 @@ pub enum RawTest {
     Ge(RawOperand),
     Eq(RawOperand),
     Between(RawOperand, RawOperand),
+    OneOf(RawOperands),
 }
 
 /// A condition: a predicate on one column, or the equality of two columns.
-#[derive(Debug, Drop, PartialEq, Eq)]
+#[derive(Debug, Drop)]
 pub enum RawCond {
     Test(RawRef, RawTest),
     Same(RawRef, RawRef),

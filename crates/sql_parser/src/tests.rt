@@ -80,6 +80,16 @@ fn statements_are_spelled_one_way(rt: HostRuntime) -> Result<(), ParseFault> {
             "SELECT a FROM t WHERE a between 1 and ? AND b = c AND d = ?",
             "SELECT a FROM t WHERE a BETWEEN 1 AND ? AND b = c AND d = ?",
         ),
+        (
+            "an IN of a parameter and a number",
+            "SELECT v FROM t WHERE v IN (?, 3)",
+            "SELECT v FROM t WHERE v IN (?, 3)",
+        ),
+        (
+            "space in the brackets of an IN goes, also where none was",
+            "SELECT v FROM t WHERE t.v in( 'a' ,-0,?)AND v IN\t(?)",
+            "SELECT v FROM t WHERE t.v IN ('a', 0, ?) AND v IN (?)",
+        ),
     ];
     for (what, text, want) in cases {
         let found = shown(rt.alloc(), text)?;
@@ -133,7 +143,14 @@ fn other_texts_are_refused(rt: HostRuntime) -> Result<(), ParseFault> {
             "a sign with space behind it",
             "SELECT a FROM t WHERE a = - 5",
         ),
-        ("IN", "SELECT a FROM t WHERE a IN 1"),
+        ("IN with no brackets", "SELECT a FROM t WHERE a IN 1"),
+        ("IN of no operand", "SELECT a FROM t WHERE a IN ()"),
+        ("IN of a column", "SELECT a FROM t WHERE a IN (b)"),
+        (
+            "a comma behind the last operand of an IN",
+            "SELECT a FROM t WHERE a IN (1, ?,)",
+        ),
+        ("an IN that isn't closed", "SELECT a FROM t WHERE a IN (1"),
         ("a byte of no token", "SELECT a FROM t WHERE a = #"),
         ("a letter of two bytes outside quotes", "SELECT é FROM t"),
     ];

@@ -12,25 +12,25 @@ returns-in_err-first c =
     let p = err_from_is_err_and c.from_residual.result c.from_residual.ensures.1 in
     rw (p.1, p.2) (err_first mark.And cond_at c.args.tokens.now.items c.in_err-first.field-0.0 c.in_err-first.ensures)
 
-pub loop-tokens-init : goal.loop-tokens-init
-loop-tokens-init c =
+pub conds-init : goal.conds-init
+conds-init c =
     rw (c.in_ok-push.ensures.items, c.new-conds.ensures.items)
     (list_start mark.And cond_at c.args.tokens.now.items c.in_ok-first.first c.take_cond.new.tokens.items c.in_ok-first.ensures)
 
-pub loop-tokens-smaller : goal.loop-tokens-smaller
-loop-tokens-smaller c =
-    let s = taken_shorter IsCond c.in_ok-next.next c.accept.new.tokens.items c.take_cond-in-loop-tokens.new.tokens.items (cond_sound c.accept.new.tokens.items c.in_ok-next.next c.take_cond-in-loop-tokens.new.tokens.items c.in_ok-next.ensures) in
-    let b = begins_shorter mark.And c.loop-tokens.tokens.items (sym c.loop-tokens-test.ensures.value) in
-    let r = ap length c.loop-tokens-test.ensures.rest in
-    let n : length c.take_cond-in-loop-tokens.new.tokens.items < length c.loop-tokens.tokens.items = omega arith in
+pub conds-smaller : goal.conds-smaller
+conds-smaller c =
+    let s = taken_shorter IsCond c.in_ok-next.next c.accept.new.tokens.items c.take_cond-in-conds.new.tokens.items (cond_sound c.accept.new.tokens.items c.in_ok-next.next c.take_cond-in-conds.new.tokens.items c.in_ok-next.ensures) in
+    let b = begins_shorter mark.And c.conds.tokens.items (sym c.conds-test.ensures.value) in
+    let r = ap length c.conds-test.ensures.rest in
+    let n : length c.take_cond-in-conds.new.tokens.items < length c.conds.tokens.items = omega arith in
     n
 
-pub loop-tokens-preserved : goal.loop-tokens-preserved
-loop-tokens-preserved c =
-    let s = taken_shorter IsCond c.in_ok-next.next c.accept.new.tokens.items c.take_cond-in-loop-tokens.new.tokens.items (cond_sound c.accept.new.tokens.items c.in_ok-next.next c.take_cond-in-loop-tokens.new.tokens.items c.in_ok-next.ensures) in
-    let b = begins_shorter mark.And c.loop-tokens.tokens.items (sym c.loop-tokens-test.ensures.value) in
-    let r = ap length c.loop-tokens-test.ensures.rest in
-    let n : length c.take_cond-in-loop-tokens.new.tokens.items < length c.loop-tokens.tokens.items = omega arith in
+pub conds-preserved : goal.conds-preserved
+conds-preserved c =
+    let s = taken_shorter IsCond c.in_ok-next.next c.accept.new.tokens.items c.take_cond-in-conds.new.tokens.items (cond_sound c.accept.new.tokens.items c.in_ok-next.next c.take_cond-in-conds.new.tokens.items c.in_ok-next.ensures) in
+    let b = begins_shorter mark.And c.conds.tokens.items (sym c.conds-test.ensures.value) in
+    let r = ap length c.conds-test.ensures.rest in
+    let n : length c.take_cond-in-conds.new.tokens.items < length c.conds.tokens.items = omega arith in
     rw (c.in_ok-push-2.ensures.items)
-    (list_step mark.And cond_at c.args.tokens.now.items c.loop-tokens.conds.items c.loop-tokens.tokens.items c.in_ok-next.next c.take_cond-in-loop-tokens.new.tokens.items
-    c.loop-tokens.invariant (sym c.loop-tokens-test.ensures.value) (rw (c.loop-tokens-test.ensures.rest) at c.in_ok-next.ensures) n)
+    (list_step mark.And cond_at c.args.tokens.now.items c.conds.conds.items c.conds.tokens.items c.in_ok-next.next c.take_cond-in-conds.new.tokens.items
+    c.conds.invariant (sym c.conds-test.ensures.value) (rw (c.conds-test.ensures.rest) at c.in_ok-next.ensures) n)

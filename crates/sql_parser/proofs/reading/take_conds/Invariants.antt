@@ -5,8 +5,8 @@ use Rattle.sql_parser.proofs.Lists.{InList}
 use Rattle.sql_parser.proofs.reading.take_conds.Given as goal
 
 -- what was read so far, and what is left to read
-abbrev pub invariant-loop-tokens : goal.invariant-loop-tokens
-invariant-loop-tokens l = InList mark.And cond_at l.fn.tokens.items l.conds.items l.tokens.items
+abbrev pub invariant-conds : goal.invariant-conds
+invariant-conds l = InList mark.And cond_at l.fn.tokens.items l.conds.items l.tokens.items
 
-abbrev pub decreases-loop-tokens : goal.decreases-loop-tokens
-decreases-loop-tokens l = length l.tokens.items
+abbrev pub decreases-conds : goal.decreases-conds
+decreases-conds l = length l.tokens.items
