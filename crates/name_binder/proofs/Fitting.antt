@@ -1,24 +1,27 @@
 -- Operands that a column takes, and predicates and edges that no misfit is among.
-use Rattle.std.proofs.Common.{ℕ, ◌≡◌, ◌+◌, ◌==◌, List, [], ◌∷◌, Bool, true, false, not, ◌||◌, Option, Some, None, IsSome, refl}
+use Rattle.std.proofs.Common.{ℕ, ◌≡◌, ◌<◌, ◌+◌, ◌==◌, nat_lt, List, [], ◌∷◌, length, Bool, true, false, not, ◌||◌, Option, Some, None, IsSome, refl, arith}
 use Rattle.std.specs.List.{All, find, flat_map}
-use Rattle.std.proofs.lemmas.Bool.{eqb-false}
+use Rattle.std.proofs.lemmas.Bool.{eqb-false, ltb-false}
 use Rattle.std.proofs.lemmas.List.Elements.{All-cons, All-nil}
 use Rattle.row_values.specs.Values.{kind_of}
+use Rattle.row_values.specs.Operands.{AreOperands}
 use Rattle.row_values.specs.Statements.{IsOperand, IsTest, IsPred, IsEdge}
+use Rattle.row_values.specs.declared.operands.TheConstants.{OPERAND_LIMIT}
 use Rattle.row_values.specs.declared.values.Kind.{Kind}
 use Rattle.row_values.specs.declared.values.Kind.TheVariants.{Int, Text}
 use Rattle.row_values.specs.declared.statement.Place.{Place}
+use Rattle.sql_parser.specs.Statement.{each, is_some, is_ref, is_operand, is_test, is_cond}
 use Rattle.sql_parser.specs.declared.statement.RawRef.{RawRef}
 use Rattle.sql_parser.specs.declared.statement.RawOperand.{RawOperand}
 use Rattle.sql_parser.specs.declared.statement.RawOperand.TheVariants.{Literal, Param}
 use Rattle.sql_parser.specs.declared.statement.RawTest.{RawTest}
-use Rattle.sql_parser.specs.declared.statement.RawTest.TheVariants.{Lt, Le, Gt, Ge, Eq, Between}
+use Rattle.sql_parser.specs.declared.statement.RawTest.TheVariants.{Lt, Le, Gt, Ge, Eq, Between, OneOf}
 use Rattle.sql_parser.specs.declared.statement.RawCond.{RawCond}
 use Rattle.sql_parser.specs.declared.statement.RawCond.TheVariants.{Test, Same}
 use Rattle.name_binder.specs.References.{place_number, meant, kind_meant, is_unknown, cond_refs}
 use Rattle.name_binder.specs.Parameters.{operand_count, test_count}
-use Rattle.name_binder.specs.Refusals.{are_one_kind, takes_operand, takes_test, is_misfit}
-use Rattle.name_binder.specs.Binding.{operand_from, test_from, preds_from, edges_of}
+use Rattle.name_binder.specs.Refusals.{are_one_kind, takes_operand, takes_all, takes_test, is_misfit, is_long, has_long}
+use Rattle.name_binder.specs.Binding.{operand_from, operands_from, test_from, preds_from, edges_of}
 use Rattle.name_binder.proofs.Known.{known_column, both_left, both_right}
 use Rattle.name_binder.proofs.Found.{split_none}
 
@@ -39,13 +42,33 @@ operand_fits : (left : Option Kind) (n : ℕ) (a : RawOperand) → IsSome left �
 operand_fits left n (Literal value) there h = one_kind left (Some (kind_of value)) h
 operand_fits left n Param there h = there
 
-test_fits : (left : Option Kind) (n : ℕ) (t : RawTest) → IsSome left → takes_test left t ≡ true → IsTest left (test_from n t)
-test_fits left n (Lt a) there h = operand_fits left n a there h
-test_fits left n (Le a) there h = operand_fits left n a there h
-test_fits left n (Gt a) there h = operand_fits left n a there h
-test_fits left n (Ge a) there h = operand_fits left n a there h
-test_fits left n (Eq a) there h = operand_fits left n a there h
-test_fits left n (Between a b) there h = (
+operands_fit : (left : Option Kind) (n : ℕ) (operands : List RawOperand) → IsSome left → takes_all left operands ≡ true → All (IsOperand left) (operands_from n operands)
+operands_fit left n [] there h = All-nil _
+operands_fit left n (a ∷ operands) there h =
+    All-cons (IsOperand left) _ _ (operand_fits left n a there (both_left (takes_operand left a) (takes_all left operands) h))
+    (operands_fit left (n + operand_count a) operands there (both_right (takes_operand left a) (takes_all left operands) h))
+
+operands_length : (n : ℕ) (operands : List RawOperand) → length (operands_from n operands) ≡ length operands
+operands_length n [] = refl
+operands_length n (a ∷ operands) = omega (arith, operands_length (n + operand_count a) operands)
+
+pub are_operands : (n : ℕ) (operands : List RawOperand) → 0 < length operands → nat_lt OPERAND_LIMIT (length operands) ≡ false → AreOperands (operands_from n operands)
+are_operands n operands some few =
+    let same = operands_length n operands in
+    record { some = omega (arith, same, some); few = omega (arith, same, ltb-false OPERAND_LIMIT (length operands) few) }
+
+some_operand : (operands : List RawOperand) → is_some operands ≡ true → 0 < length operands
+some_operand [] h = absurd cc
+some_operand (a ∷ operands) h = omega arith
+
+test_fits : (left : Option Kind) (n : ℕ) (t : RawTest) → IsSome left → takes_test left t ≡ true → is_test t ≡ true → is_long t ≡ false → IsTest left (test_from n t)
+test_fits left n (Lt a) there h spelled short = operand_fits left n a there h
+test_fits left n (Le a) there h spelled short = operand_fits left n a there h
+test_fits left n (Gt a) there h spelled short = operand_fits left n a there h
+test_fits left n (Ge a) there h spelled short = operand_fits left n a there h
+test_fits left n (Eq a) there h spelled short = operand_fits left n a there h
+test_fits left n (OneOf operands) there h spelled short = (are_operands n operands (some_operand operands (both_left (is_some operands) (each is_operand operands) spelled)) short, operands_fit left n operands there h)
+test_fits left n (Between a b) there h spelled short = (
   operand_fits left n a there (both_left (takes_operand left a) (takes_operand left b) h),
   operand_fits left (n + operand_count a) b there (both_right (takes_operand left a) (takes_operand left b) h),
 )
@@ -64,18 +87,22 @@ edge_fits places a b known h =
       two_places = eqb-false (place_number a places) (place_number b places) both.0;
     }
 
-pub preds_fit : (places : List Place) (n : ℕ) (conds : List RawCond) → find (is_unknown places) (flat_map cond_refs conds) ≡ None → find (is_misfit places) conds ≡ None
+pub preds_fit : (places : List Place) (n : ℕ) (conds : List RawCond) → find (is_unknown places) (flat_map cond_refs conds) ≡ None → find (is_misfit places) conds ≡ None → each is_cond conds ≡ true → has_long conds ≡ false
     → All (IsPred places) (preds_from places n conds)
-preds_fit places n [] known fit = All-nil _
-preds_fit places n (Test r t ∷ conds) known fit =
+preds_fit places n [] known fit spelled short = All-nil _
+preds_fit places n (Test r t ∷ conds) known fit spelled short =
     let k = split_none (is_unknown places r) r (find (is_unknown places) (flat_map cond_refs conds)) known in
     let f = split_none (is_misfit places (Test r t)) (Test r t) (find (is_misfit places) conds) fit in
-    All-cons (IsPred places) _ _ (test_fits (kind_meant places r) n t (known_column r places k.0) (not_false _ f.0)) (preds_fit places (n + test_count t) conds k.1 f.1)
-preds_fit places n (Same a b ∷ conds) known fit =
+    let spelled_test = both_right (is_ref r) (is_test t) (both_left (is_cond (Test r t)) (each is_cond conds) spelled) in
+    let spelled_rest = both_right (is_cond (Test r t)) (each is_cond conds) spelled in
+    let s = either_false (is_long t) (has_long conds) short in
+    All-cons (IsPred places) _ _ (test_fits (kind_meant places r) n t (known_column r places k.0) (not_false _ f.0) spelled_test s.0)
+    (preds_fit places (n + test_count t) conds k.1 f.1 spelled_rest s.1)
+preds_fit places n (Same a b ∷ conds) known fit spelled short =
     let k = split_none (is_unknown places a) a _ known in
     let k2 = split_none (is_unknown places b) b (find (is_unknown places) (flat_map cond_refs conds)) k.1 in
     let f = split_none (is_misfit places (Same a b)) (Same a b) (find (is_misfit places) conds) fit in
-    preds_fit places n conds k2.1 f.1
+    preds_fit places n conds k2.1 f.1 (both_right (is_cond (Same a b)) (each is_cond conds) spelled) short
 
 pub edges_fit : (places : List Place) (conds : List RawCond) → find (is_unknown places) (flat_map cond_refs conds) ≡ None → find (is_misfit places) conds ≡ None
     → All (IsEdge places) (edges_of places conds)

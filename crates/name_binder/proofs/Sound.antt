@@ -19,7 +19,7 @@ use Rattle.sql_parser.specs.declared.statement.RawKey.{RawKey}
 use Rattle.name_binder.specs.Catalog.{Known}
 use Rattle.name_binder.specs.References.{places_of, place_of, meant, kind_meant, is_unknown, item_ref, cond_refs}
 use Rattle.name_binder.specs.Parameters.{parameterised_count}
-use Rattle.name_binder.specs.Refusals.{are_one_kind, is_sum_of_text, first_sum_of_text, first_excess, first_misfit, first_ungrouped, first_ungrouped_item, first_ungrouped_key, first_unknown_column, first_ambiguous, first_repeated_alias, is_ungrouped_item, is_ungrouped_key, bound_item, bound_groups, is_misfit, left_of}
+use Rattle.name_binder.specs.Refusals.{are_one_kind, is_sum_of_text, first_sum_of_text, first_excess, first_misfit, first_ungrouped, first_ungrouped_item, first_ungrouped_key, first_unknown_column, first_ambiguous, first_repeated_alias, is_ungrouped_item, is_ungrouped_key, bound_item, bound_groups, is_misfit, has_long, left_of}
 use Rattle.name_binder.specs.Spelling.{item_text, ref_text}
 use Rattle.row_values.specs.Names.{canonical_name}
 use Rattle.name_binder.specs.Binding.{bound_key, bound_statement, name_refusal, shape_refusal, first_of}
@@ -36,6 +36,7 @@ pub record FitsLimits (s : Parts) : Type 0 where
   pub places : length s.places ≤ PLACE_LIMIT
   pub selectivities : parameterised_count s.conds ≤ SELECTIVITY_LIMIT
   pub conds : length s.conds ≤ CONDITION_LIMIT
+  pub operands : has_long s.conds ≡ false
   pub items : length s.items ≤ ITEM_LIMIT
   pub groups : length s.groups ≤ KEY_LIMIT
   pub order : length s.order ≤ KEY_LIMIT
@@ -49,13 +50,15 @@ fits_limits s h =
     let tables = split_none (nat_lt PLACE_LIMIT (length s.places)) _ _ h in
     let predicates = split_none (nat_lt SELECTIVITY_LIMIT (parameterised_count s.conds)) _ _ tables.1 in
     let conditions = split_none (nat_lt CONDITION_LIMIT (length s.conds)) _ _ predicates.1 in
-    let items = split_none (nat_lt ITEM_LIMIT (length s.items)) _ _ conditions.1 in
+    let operands = split_none (has_long s.conds) _ _ conditions.1 in
+    let items = split_none (nat_lt ITEM_LIMIT (length s.items)) _ _ operands.1 in
     let keys = split_none (nat_lt KEY_LIMIT (length s.groups) || nat_lt KEY_LIMIT (length s.order)) _ _ items.1 in
     let both = either_false (nat_lt KEY_LIMIT (length s.groups)) (nat_lt KEY_LIMIT (length s.order)) keys.0 in
     record {
       places = ltb-false PLACE_LIMIT (length s.places) tables.0;
       selectivities = ltb-false SELECTIVITY_LIMIT (parameterised_count s.conds) predicates.0;
       conds = ltb-false CONDITION_LIMIT (length s.conds) conditions.0;
+      operands = operands.0;
       items = ltb-false ITEM_LIMIT (length s.items) items.0;
       groups = ltb-false KEY_LIMIT (length s.groups) both.0;
       order = ltb-false KEY_LIMIT (length s.order) both.1;
@@ -134,7 +137,7 @@ sound tables s spelled passes =
       few_places = omega (arith, many, limits.places);
       aliases = distinct tables [] s.places spelled.places passes.aliases;
       few_conditions = omega (arith, limits.conds, conditions places 0 s.conds);
-      preds = preds_fit places 0 s.conds in_conds.1 fitting;
+      preds = preds_fit places 0 s.conds in_conds.1 fitting spelled.conds limits.operands;
       few_selectivities = omega (arith, limits.selectivities, selectivities places 0 s.conds);
       numbered = numbered places 0 s.conds;
       edges = edges_fit places s.conds in_conds.1 fitting;

@@ -15,7 +15,7 @@ use Rattle.sql_parser.specs.declared.statement.RawPlace.{RawPlace}
 use Rattle.sql_parser.specs.declared.statement.RawOperand.{RawOperand}
 use Rattle.sql_parser.specs.declared.statement.RawOperand.TheVariants.{Literal, Param}
 use Rattle.sql_parser.specs.declared.statement.RawTest.{RawTest}
-use Rattle.sql_parser.specs.declared.statement.RawTest.TheVariants.{Lt, Le, Gt, Ge, Eq, Between}
+use Rattle.sql_parser.specs.declared.statement.RawTest.TheVariants.{Lt, Le, Gt, Ge, Eq, Between, OneOf}
 use Rattle.sql_parser.specs.declared.statement.RawCond.{RawCond}
 use Rattle.sql_parser.specs.declared.statement.RawCond.TheVariants as cond
 use Rattle.sql_parser.specs.declared.statement.RawKey.{RawKey}
@@ -68,6 +68,11 @@ abbrev pub operand_from : ℕ → RawOperand → Operand
 operand_from next (Literal value) = operand.Literal value
 operand_from next Param = operand.Param next
 
+-- operands whose parameters have the numbers from this one on
+abbrev pub operands_from : ℕ → List RawOperand → List Operand
+operands_from next [] = []
+operands_from next (a ∷ operands) = operand_from next a ∷ operands_from (next + operand_count a) operands
+
 -- a test whose parameters have the numbers from this one on
 abbrev pub test_from : ℕ → RawTest → Test
 test_from next (Lt a) = test.Lt (operand_from next a)
@@ -76,6 +81,7 @@ test_from next (Gt a) = test.Gt (operand_from next a)
 test_from next (Ge a) = test.Ge (operand_from next a)
 test_from next (Eq a) = test.Eq (operand_from next a)
 test_from next (Between a b) = test.Between (operand_from next a) (operand_from (next + operand_count a) b)
+test_from next (OneOf operands) = test.OneOf (operands_from next operands)
 
 -- the predicates, their parameters numbered from this one on
 abbrev pub preds_from : List Place → ℕ → List RawCond → List Pred

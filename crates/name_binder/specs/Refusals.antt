@@ -4,6 +4,7 @@ use Rattle.std.specs.Option.{option_map, option_or, option_and_then}
 use Rattle.std.specs.Str.{bytes_eq}
 use Rattle.row_values.specs.Values.{kind_of}
 use Rattle.row_values.specs.Statements.{is_among, is_grouped_item, is_plain}
+use Rattle.row_values.specs.declared.operands.TheConstants.{OPERAND_LIMIT}
 use Rattle.row_values.specs.declared.statement.TheConstants.{PLACE_LIMIT, SELECTIVITY_LIMIT, CONDITION_LIMIT, ITEM_LIMIT, KEY_LIMIT}
 use Rattle.row_values.specs.declared.values.Kind.{Kind}
 use Rattle.row_values.specs.declared.values.Kind.TheVariants.{Int, Text}
@@ -19,7 +20,7 @@ use Rattle.sql_parser.specs.declared.statement.RawItem.TheVariants as item
 use Rattle.sql_parser.specs.declared.statement.RawOperand.{RawOperand}
 use Rattle.sql_parser.specs.declared.statement.RawOperand.TheVariants.{Literal, Param}
 use Rattle.sql_parser.specs.declared.statement.RawTest.{RawTest}
-use Rattle.sql_parser.specs.declared.statement.RawTest.TheVariants.{Lt, Le, Gt, Ge, Eq, Between}
+use Rattle.sql_parser.specs.declared.statement.RawTest.TheVariants.{Lt, Le, Gt, Ge, Eq, Between, OneOf}
 use Rattle.sql_parser.specs.declared.statement.RawCond.{RawCond}
 use Rattle.sql_parser.specs.declared.statement.RawCond.TheVariants as cond
 use Rattle.sql_parser.specs.declared.statement.RawKey.{RawKey}
@@ -66,6 +67,10 @@ abbrev pub takes_operand : Option Kind → RawOperand → Bool
 takes_operand left (Literal value) = are_one_kind left (Some (kind_of value))
 takes_operand left Param = true
 
+abbrev pub takes_all : Option Kind → List RawOperand → Bool
+takes_all left [] = true
+takes_all left (a ∷ operands) = takes_operand left a && takes_all left operands
+
 abbrev pub takes_test : Option Kind → RawTest → Bool
 takes_test left (Lt a) = takes_operand left a
 takes_test left (Le a) = takes_operand left a
@@ -73,6 +78,7 @@ takes_test left (Gt a) = takes_operand left a
 takes_test left (Ge a) = takes_operand left a
 takes_test left (Eq a) = takes_operand left a
 takes_test left (Between a b) = takes_operand left a && takes_operand left b
+takes_test left (OneOf operands) = takes_all left operands
 
 -- a literal of another kind than its column; or two columns of one place, or of two kinds
 abbrev pub is_misfit : List Place → RawCond → Bool
@@ -88,12 +94,32 @@ left_of (cond.Same a b) = a
 abbrev pub first_misfit : List Place → List RawCond → Option RawRef
 first_misfit places conds = option_map left_of (find (is_misfit places) conds)
 
+-- whether a test is an IN of more operands than one may have
+abbrev pub is_long : RawTest → Bool
+is_long (Lt a) = false
+is_long (Le a) = false
+is_long (Gt a) = false
+is_long (Ge a) = false
+is_long (Eq a) = false
+is_long (Between a b) = false
+is_long (OneOf operands) = nat_lt OPERAND_LIMIT (length operands)
+
+abbrev pub is_long_cond : RawCond → Bool
+is_long_cond (cond.Test r test) = is_long test
+is_long_cond (cond.Same a b) = false
+
+-- whether such an IN is among the conditions
+abbrev pub has_long : List RawCond → Bool
+has_long [] = false
+has_long (condition ∷ conditions) = is_long_cond condition || has_long conditions
+
 -- which limit the statement passes
 abbrev pub first_excess : Parts → Option (List ℕ)
 first_excess s =
     if nat_lt PLACE_LIMIT (length s.places) then Some (codes "tables") else
     if nat_lt SELECTIVITY_LIMIT (parameterised_count s.conds) then Some (codes "predicates") else
     if nat_lt CONDITION_LIMIT (length s.conds) then Some (codes "conditions") else
+    if has_long s.conds then Some (codes "operands") else
     if nat_lt ITEM_LIMIT (length s.items) then Some (codes "items") else
     if nat_lt KEY_LIMIT (length s.groups) || nat_lt KEY_LIMIT (length s.order) then Some (codes "keys") else
     None

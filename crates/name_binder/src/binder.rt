@@ -1,5 +1,5 @@
 //! The binder: the refusals one after the other, and then the statement.
-ghost use Rattle.std.specs.Prelude.{◌≡◌, ◌≤◌, [], map, find, length, IfOk};
+ghost use Rattle.std.specs.Prelude.{◌≡◌, ◌≤◌, [], false, map, find, length, IfOk};
 ghost use Rattle.std.specs.Option.{option_map};
 ghost use Rattle.row_values.specs.Statements.{IsSoundQuery};
 ghost use Rattle.row_values.specs.Names.{canonical_name};
@@ -110,6 +110,7 @@ fn statement(
 ) -> Result<Query, AllocError>
     requires places { length places.items ≤ PLACE_LIMIT }
     requires parameters { parameterised_count s.now.conds ≤ SELECTIVITY_LIMIT }
+    requires operands { refusals.has_long s.now.conds ≡ false }
     requires groups { groups.items ≡ refusals.bound_groups places.items s.now.groups }
     requires sound { IsSoundQuery (bound_statement places.items s.now) }
     ensures { IfOk result (λ q. q ≡ bound_statement places.items s.now) }

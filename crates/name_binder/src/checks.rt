@@ -33,6 +33,18 @@ fn takes_operand(left: Option<Kind>, operand: &RawOperand) -> bool
     }
 }
 
+/// Whether a column of this kind can be compared with each of the operands.
+fn takes_all(left: Option<Kind>, operands: &[RawOperand]) -> bool
+    ensures { result ≡ refusals.takes_all left operands.now }
+{
+    for operand in operands {
+        if !takes_operand(left, operand) {
+            return false;
+        }
+    }
+    true
+}
+
 /// Whether a column of this kind can be tested so.
 fn takes_test(left: Option<Kind>, test: &RawTest) -> bool
     ensures { result ≡ refusals.takes_test left test.now }
@@ -44,6 +56,7 @@ fn takes_test(left: Option<Kind>, test: &RawTest) -> bool
         RawTest::Ge(a) => takes_operand(left, a),
         RawTest::Eq(a) => takes_operand(left, a),
         RawTest::Between(a, b) => takes_operand(left, a) && takes_operand(left, b),
+        RawTest::OneOf(operands) => takes_all(left, operands.as_slice()),
     }
 }
 

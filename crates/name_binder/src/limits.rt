@@ -1,10 +1,12 @@
 //! The limits of a statement, and which of them it passes first.
-ghost use Rattle.std.specs.Prelude.{◌≡◌, ◌≤◌};
+ghost use Rattle.std.specs.Prelude.{◌≡◌, ◌≤◌, ◌==◌, not, false, length};
 ghost use Rattle.std.specs.Option.{option_map};
 ghost use Rattle.name_binder.specs.Parameters as parameters;
 ghost use Rattle.name_binder.specs.Refusals as refusals;
 
-use row_values::{CONDITION_LIMIT, ITEM_LIMIT, KEY_LIMIT, PLACE_LIMIT, SELECTIVITY_LIMIT};
+use row_values::{
+    CONDITION_LIMIT, ITEM_LIMIT, KEY_LIMIT, OPERAND_LIMIT, PLACE_LIMIT, SELECTIVITY_LIMIT,
+};
 use sql_parser::{RawCond, RawOperand, RawTest, Select};
 
 /// How many parameters the operand is.
@@ -18,10 +20,24 @@ pub fn operand_count(operand: &RawOperand) -> u8
     }
 }
 
-/// How many parameters the test has.
+/// How many parameters these operands are, few enough for one IN.
+fn operands_count(operands: &[RawOperand]) -> u8
+    requires { length operands.now ≤ OPERAND_LIMIT }
+    ensures value { result ≡ parameters.operands_count operands.now }
+    ensures bound { result ≤ OPERAND_LIMIT }
+{
+    let mut count = 0;
+    for operand in operands {
+        count += operand_count(operand);
+    }
+    count
+}
+
+/// How many parameters the test has, whose operands are few enough.
 pub fn test_count(test: &RawTest) -> u8
+    requires { refusals.is_long test.now ≡ false }
     ensures value { result ≡ parameters.test_count test.now }
-    ensures bound { result ≤ 2 }
+    ensures bound { result ≤ OPERAND_LIMIT }
 {
     match test {
         RawTest::Lt(a) => operand_count(a),
@@ -30,6 +46,34 @@ pub fn test_count(test: &RawTest) -> u8
         RawTest::Ge(a) => operand_count(a),
         RawTest::Eq(a) => operand_count(a),
         RawTest::Between(a, b) => operand_count(a) + operand_count(b),
+        RawTest::OneOf(operands) => operands_count(operands.as_slice()),
+    }
+}
+
+/// Whether one of the operands is a parameter.
+fn has_parameter(operands: &[RawOperand]) -> bool
+    ensures { result ≡ not (parameters.operands_count operands.now == 0) }
+{
+    for operand in operands {
+        if operand_count(operand) != 0 {
+            return true;
+        }
+    }
+    false
+}
+
+/// Whether the test has a parameter.
+fn depends_on_arguments(test: &RawTest) -> bool
+    ensures { result ≡ not (parameters.test_count test.now == 0) }
+{
+    match test {
+        RawTest::Lt(a) => operand_count(a) != 0,
+        RawTest::Le(a) => operand_count(a) != 0,
+        RawTest::Gt(a) => operand_count(a) != 0,
+        RawTest::Ge(a) => operand_count(a) != 0,
+        RawTest::Eq(a) => operand_count(a) != 0,
+        RawTest::Between(a, b) => operand_count(a) + operand_count(b) != 0,
+        RawTest::OneOf(operands) => has_parameter(operands.as_slice()),
     }
 }
 
@@ -38,7 +82,7 @@ fn is_parameterised(cond: &RawCond) -> bool
     ensures { result ≡ parameters.is_parameterised cond.now }
 {
     match cond {
-        RawCond::Test(_, test) => test_count(test) != 0,
+        RawCond::Test(_, test) => depends_on_arguments(test),
         RawCond::Same(_, _) => false,
     }
 }
@@ -56,6 +100,38 @@ fn parameterised_count(conds: &[RawCond]) -> usize
     count
 }
 
+/// Whether the test is an IN of too many operands.
+fn is_long(test: &RawTest) -> bool
+    ensures { result ≡ refusals.is_long test.now }
+{
+    match test {
+        RawTest::OneOf(operands) => operands.as_slice().len() > OPERAND_LIMIT,
+        _ => false,
+    }
+}
+
+/// Whether the condition is an IN of too many operands.
+fn is_long_cond(cond: &RawCond) -> bool
+    ensures { result ≡ refusals.is_long_cond cond.now }
+{
+    match cond {
+        RawCond::Test(_, test) => is_long(test),
+        RawCond::Same(_, _) => false,
+    }
+}
+
+/// Whether an IN of too many operands is among the conditions.
+fn has_long(conds: &[RawCond]) -> bool
+    ensures { result ≡ refusals.has_long conds.now }
+{
+    for cond in conds {
+        if is_long_cond(cond) {
+            return true;
+        }
+    }
+    false
+}
+
 /// Which limit the statement passes, the first in the order in which they count.
 pub fn first_excess(s: &Select) -> Option<&'static str>
     ensures { option_map (λ word. word.now) result ≡ refusals.first_excess s.now }
@@ -68,6 +144,9 @@ pub fn first_excess(s: &Select) -> Option<&'static str>
     }
     if s.conds().len() > CONDITION_LIMIT {
         return Some("conditions");
+    }
+    if has_long(s.conds()) {
+        return Some("operands");
     }
     if s.items().len() > ITEM_LIMIT {
         return Some("items");

@@ -1,7 +1,8 @@
 //! The parts of the bound statement: each reference as the column that it means, each parameter with its number.
 //!
-//! All calls are for statements within the limits: few places, and few parameterised predicates.
-ghost use Rattle.std.specs.Prelude.{◌≡◌, ◌≤◌, ◌<◌, length, IfOk, map};
+//! All calls are for statements within the limits: few places, few parameterised predicates, and few operands in
+//! each IN.
+ghost use Rattle.std.specs.Prelude.{◌≡◌, ◌≤◌, false, length, IfOk, map};
 ghost use Rattle.name_binder.specs.References as names;
 ghost use Rattle.name_binder.specs.Parameters.{parameterised_count};
 ghost use Rattle.name_binder.specs.Refusals as refusals;
@@ -10,9 +11,10 @@ ghost use Rattle.name_binder.specs.Binding as binding;
 use crate::limits::{operand_count, test_count};
 use crate::references::meant;
 use row_values::{
-    ColRef, Edge, Item, Operand, OrderKey, PLACE_LIMIT, Place, Pred, SELECTIVITY_LIMIT, Test,
+    ColRef, Edge, Item, OPERAND_LIMIT, Operand, Operands, OrderKey, PLACE_LIMIT, Place, Pred,
+    SELECTIVITY_LIMIT, Test,
 };
-use sql_parser::{RawCond, RawItem, RawKey, RawOperand, RawRef, RawTest};
+use sql_parser::{RawCond, RawItem, RawKey, RawOperand, RawOperands, RawRef, RawTest};
 use std::alloc::{AllocError, Global};
 
 /// The column that the reference means.
@@ -123,9 +125,42 @@ fn operand_from(alloc: Global, next: u8, operand: &RawOperand) -> Result<Operand
     }
 }
 
+/// The operands, their parameters with the numbers from this one on.
+fn operands_from(
+    alloc: Global,
+    first: u8,
+    operands: &[RawOperand],
+) -> Result<Vec<Operand>, AllocError>
+    requires first { first ≤ 128 }
+    requires few { length operands.now ≤ OPERAND_LIMIT }
+    ensures { IfOk result (λ bound. bound.items ≡ binding.operands_from first operands.now) }
+{
+    let mut bound = Vec::new(alloc);
+    let mut next = first;
+    for operand in operands {
+        bound.push(operand_from(alloc, next, operand)?)?;
+        next += operand_count(operand);
+    }
+    Ok(bound)
+}
+
+/// The IN, its parameters with the numbers from this one on.
+fn one_of(alloc: Global, next: u8, operands: &RawOperands) -> Result<Test, AllocError>
+    requires next { next ≤ 128 }
+    requires few { refusals.is_long (RawTest.OneOf operands.now) ≡ false }
+    ensures { IfOk result (λ bound. bound ≡ binding.test_from next (RawTest.OneOf operands.now)) }
+{
+    let bound = operands_from(alloc, next, operands.as_slice())?;
+    match Operands::of(bound) {
+        Some(operands) => Ok(Test::OneOf(operands)),
+        None => unreachable!(),
+    }
+}
+
 /// The test, its parameters with the numbers from this one on.
 fn test_from(alloc: Global, next: u8, test: &RawTest) -> Result<Test, AllocError>
-    requires { next < 255 }
+    requires next { next ≤ 128 }
+    requires few { refusals.is_long test.now ≡ false }
     ensures { IfOk result (λ bound. bound ≡ binding.test_from next test.now) }
 {
     let bound = match test {
@@ -138,6 +173,7 @@ fn test_from(alloc: Global, next: u8, test: &RawTest) -> Result<Test, AllocError
             operand_from(alloc, next, a)?,
             operand_from(alloc, next + operand_count(a), b)?,
         ),
+        RawTest::OneOf(operands) => one_of(alloc, next, operands)?,
     };
     Ok(bound)
 }
@@ -150,6 +186,7 @@ pub fn bound_preds(
 ) -> Result<Vec<Pred>, AllocError>
     requires places { length places.now ≤ PLACE_LIMIT }
     requires parameters { parameterised_count conds.now ≤ SELECTIVITY_LIMIT }
+    requires operands { refusals.has_long conds.now ≡ false }
     ensures { IfOk result (λ preds. preds.items ≡ binding.preds_from places.now 0 conds.now) }
 {
     let mut preds = Vec::new(alloc);

@@ -80,6 +80,14 @@ fn push_test(out: &mut String, alloc: Global, test: &Test) -> Result<(), AllocEr
             push_operand(out, alloc, a)?;
             ("..", b)
         }
+        Test::OneOf(operands) => {
+            out.push_str(" in")?;
+            for a in operands.as_slice() {
+                out.push_str(" ")?;
+                push_operand(out, alloc, a)?;
+            }
+            return Ok(());
+        }
     };
     out.push_str(sign)?;
     push_operand(out, alloc, operand)
@@ -199,6 +207,11 @@ fn names_become_numbers(rt: HostRuntime) -> Result<(), Fail> {
             "parameters in text order, predicates and edges apart",
             "SELECT b.v FROM t a, t b WHERE b.v < ? AND a.v = b.v AND a.w BETWEEN 3 AND ? AND b.w BETWEEN ? AND ? AND a.v > ?",
             "t:a t:b | 1.0<?0 0.1 between 3..?1 1.1 between ?2..?3 0.0>?4 | 0.0 = 1.0 | 1.0 | |",
+        ),
+        (
+            "an IN, its parameters numbered with the others",
+            "SELECT v FROM t WHERE v IN (?, 3) AND name IN ('x', ?, ?) AND w < ?",
+            "t:t | 0.0 in ?0 3 0.2 in x ?1 ?2 0.1<?3 | | 0.0 | |",
         ),
         (
             "conditions of a join stand before those of WHERE",
@@ -337,6 +350,26 @@ fn the_first_refusal_counts(rt: HostRuntime) -> Result<(), Fail> {
             "misfit name",
         ),
         (
+            "a text in an IN over whole numbers",
+            "SELECT v FROM t WHERE v IN ('x')",
+            "misfit v",
+        ),
+        (
+            "a number behind a parameter in an IN over texts",
+            "SELECT v FROM t WHERE name IN (?, 'x', 3)",
+            "misfit name",
+        ),
+        (
+            "a misfit in an IN of seventeen operands",
+            "SELECT v FROM t WHERE v IN (1,2,3,4,5,6,7,8,9,10,11,12,13,14,15,16,'x')",
+            "misfit v",
+        ),
+        (
+            "seventeen operands, before seventeen items",
+            "SELECT v,v,v,v,v,v,v,v,v,v,v,v,v,v,v,v,w FROM t WHERE v IN (1,2,3,4,5,6,7,8,9,?,11,12,13,14,15,16,?)",
+            "too many operands",
+        ),
+        (
             "an edge of two kinds",
             "SELECT w FROM t, u WHERE t.v = u.x",
             "misfit t.v",
@@ -446,6 +479,47 @@ fn limits_are_met_and_not_passed(rt: HostRuntime) -> Result<(), Fail> {
         assert_eq!(rt; is_bound(rt.alloc(), met.as_str())?, true, "{want}");
         let past = repeated(rt.alloc(), first, next, limit)?;
         assert_eq!(rt; bound(rt.alloc(), past.as_str())?.as_str(), want, "{want}");
+    }
+    Ok(())
+}
+
+#[test]
+fn an_in_is_one_predicate_of_at_most_sixteen_operands(rt: HostRuntime) -> Result<(), Fail> {
+    let cases = [
+        ("sixteen parameters", 15, "", 0, ""),
+        ("seventeen parameters", 16, "", 0, "too many operands"),
+        ("eight predicates", 15, " AND w IN (?, 1)", 7, ""),
+        (
+            "nine predicates",
+            15,
+            " AND w IN (?, 1)",
+            8,
+            "too many predicates",
+        ),
+        (
+            "seventeen operands in one of nine",
+            16,
+            " AND w IN (?, 1)",
+            8,
+            "too many predicates",
+        ),
+        (
+            "seventeen operands in one of 33",
+            16,
+            " AND w IN (1, 2)",
+            32,
+            "too many conditions",
+        ),
+    ];
+    for (what, more, next, count, want) in cases {
+        let mut text = repeated(rt.alloc(), "SELECT v FROM t WHERE v IN (?", ", ?", more)?;
+        text.push_str(")")?;
+        text.push_str(repeated(rt.alloc(), "", next, count)?.as_str())?;
+        if want.is_empty() {
+            assert!(rt; is_bound(rt.alloc(), text.as_str())?, "{what}");
+        } else {
+            assert_eq!(rt; bound(rt.alloc(), text.as_str())?.as_str(), want, "{what}");
+        }
     }
     Ok(())
 }
