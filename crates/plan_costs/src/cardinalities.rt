@@ -4,7 +4,7 @@
 //! is as if their product divided at once.
 ghost use Rattle.std.specs.Prelude.{ℕ, ◌≡◌, ◌==◌, ◌&&◌, if◌then◌else◌, not, ◌<◌, ◌≤◌, ◌^◌, All, length, map, slice_index};
 ghost use Rattle.std.specs.Int.{div_ceil};
-ghost use Rattle.row_values.specs.Statements.{is_parameterised as is_parameterised_pred, operand_parameters, selectivity_count};
+ghost use Rattle.row_values.specs.Statements.{is_parameterised as is_parameterised_pred, operand_parameters, operands_parameters, selectivity_count};
 ghost use Rattle.plan_trees.specs.PlaceSets.{has};
 ghost use Rattle.plan_trees.specs.Statistics.{IsSoundStats, IsSoundVector, selectivity_places};
 ghost use Rattle.cost_model.specs.Cardinalities.{card_of, is_inside, marked_product, product_over};
@@ -23,6 +23,18 @@ fn is_parameter(operand: &Operand) -> bool
     }
 }
 
+/// Whether one of the operands is a parameter.
+fn has_parameter(operands: &[Operand]) -> bool
+    ensures { result ≡ not (length (operands_parameters operands.now) == 0) }
+{
+    for operand in operands {
+        if is_parameter(operand) {
+            return true;
+        }
+    }
+    false
+}
+
 /// Whether some operand of the predicate is a parameter.
 pub(crate) fn is_parameterised(pred: &Pred) -> bool
     ensures { result ≡ is_parameterised_pred pred.now }
@@ -34,6 +46,7 @@ pub(crate) fn is_parameterised(pred: &Pred) -> bool
         Test::Ge(a) => is_parameter(a),
         Test::Eq(a) => is_parameter(a),
         Test::Between(a, b) => is_parameter(a) || is_parameter(b),
+        Test::OneOf(operands) => has_parameter(operands.as_slice()),
     }
 }
 
