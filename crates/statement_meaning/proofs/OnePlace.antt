@@ -1,5 +1,5 @@
 -- The kept combinations of a statement of one place are the rows that pass.
-use Rattle.std.proofs.Common.{ℕ, ◌≡◌, ◌&&◌, suc, zero, Bool, true, false, List, [], ◌∷◌, length, map, cond, ap, sym, ◌∙◌, refl, arith, subst}
+use Rattle.std.proofs.Common.{ℕ, ◌≡◌, ◌<◌, ◌&&◌, suc, zero, Bool, true, false, List, [], ◌∷◌, length, map, cond, ap, sym, ◌∙◌, refl, arith, subst}
 use Rattle.std.specs.Prelude.{All, filter, flat_map, IsSome, Option}
 use Rattle.std.proofs.lemmas.Bool.{false≢true}
 use Rattle.std.proofs.lemmas.List.Elements.{All-head, All-weaker}
@@ -10,7 +10,7 @@ use Rattle.row_values.specs.declared.statement.Operand.{Operand}
 use Rattle.row_values.specs.declared.statement.Operand.TheVariants.{Literal, Param}
 use Rattle.row_values.specs.declared.statement.Pred.{Pred}
 use Rattle.row_values.specs.declared.statement.Test.{Test}
-use Rattle.row_values.specs.declared.statement.Test.TheVariants.{Lt, Le, Gt, Ge, Eq, Between}
+use Rattle.row_values.specs.declared.statement.Test.TheVariants.{Lt, Le, Gt, Ge, Eq, Between, OneOf}
 use Rattle.row_values.specs.declared.statement.Edge.{Edge}
 use Rattle.row_values.specs.declared.statement.Place.{Place}
 use Rattle.statement_meaning.specs.Combinations.{World, row_numbers, combinations, sizes_from, keeps, kept, edges_hold, kept_combinations, world_of, row_at, rows_at}
@@ -26,6 +26,10 @@ operand_left : (left : Option Kind) (a : Operand) → IsOperand left a → IsSom
 operand_left left (Literal value) h = subst IsSome (sym h) refl
 operand_left left (Param number) h = h
 
+first_left : (left : Option Kind) (operands : List Operand) → 0 < length operands → All (IsOperand left) operands → IsSome left
+first_left left [] some h = absurd (omega (arith, some))
+first_left left (a ∷ operands) some h = operand_left left a (All-head (IsOperand left) a operands h)
+
 test_left : (left : Option Kind) (t : Test) → IsTest left t → IsSome left
 test_left left (Lt a) h = operand_left left a h
 test_left left (Le a) h = operand_left left a h
@@ -33,6 +37,7 @@ test_left left (Gt a) h = operand_left left a h
 test_left left (Ge a) h = operand_left left a h
 test_left left (Eq a) h = operand_left left a h
 test_left left (Between a b) h = operand_left left a h.0
+test_left left (OneOf operands) h = first_left left operands h.0.some h.1
 
 on_it : (places : List Place) → length places ≡ 1 → (pred : Pred) → IsPred places pred → pred.at.place ≡ 0
 on_it [] l pred h = absurd (omega (arith, l))

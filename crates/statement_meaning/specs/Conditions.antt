@@ -1,7 +1,7 @@
 -- When a row meets a predicate, and when two rows meet an edge.
 --
 -- A cell, a literal or an argument that isn't there meets nothing, and neither do values of two kinds.
-use Rattle.std.specs.Prelude.{ℕ, List, [], ◌∷◌, slice_get, Bool, true, false, ◌&&◌, ◌==◌, if◌then◌else◌, Option, Some, None}
+use Rattle.std.specs.Prelude.{ℕ, List, [], ◌∷◌, slice_get, Bool, true, false, ◌&&◌, ◌||◌, ◌==◌, if◌then◌else◌, Option, Some, None}
 use Rattle.std.specs.Option.{option_map_or}
 use Rattle.std.specs.Ordering.{is_lt, is_le, is_gt, is_ge, is_eq}
 use Rattle.std.specs.declared.cmp.Ordering.{Ordering}
@@ -10,7 +10,7 @@ use Rattle.row_values.specs.declared.values.Value.{Value}
 use Rattle.row_values.specs.declared.statement.Operand.{Operand}
 use Rattle.row_values.specs.declared.statement.Operand.TheVariants.{Literal, Param}
 use Rattle.row_values.specs.declared.statement.Test.{Test}
-use Rattle.row_values.specs.declared.statement.Test.TheVariants.{Lt, Le, Gt, Ge, Eq, Between}
+use Rattle.row_values.specs.declared.statement.Test.TheVariants.{Lt, Le, Gt, Ge, Eq, Between, OneOf}
 use Rattle.row_values.specs.declared.statement.Pred.{Pred}
 use Rattle.row_values.specs.declared.statement.Edge.{Edge}
 
@@ -29,6 +29,11 @@ order_between (Some left) (Some right) = value_cmp left right
 abbrev pub compares : (Ordering → Bool) → Option Value → Option Value → Bool
 compares passes left right = option_map_or passes (order_between left right) false
 
+-- whether a cell equals one of the operands
+abbrev pub equals_one : List Value → Option Value → List Operand → Bool
+equals_one args cell [] = false
+equals_one args cell (a ∷ operands) = compares is_eq cell (operand_value args a) || equals_one args cell operands
+
 -- whether a cell meets a test; BETWEEN takes both ends
 abbrev pub meets : List Value → Test → Option Value → Bool
 meets args (Lt a) cell = compares is_lt cell (operand_value args a)
@@ -37,6 +42,7 @@ meets args (Gt a) cell = compares is_gt cell (operand_value args a)
 meets args (Ge a) cell = compares is_ge cell (operand_value args a)
 meets args (Eq a) cell = compares is_eq cell (operand_value args a)
 meets args (Between a b) cell = compares is_ge cell (operand_value args a) && compares is_le cell (operand_value args b)
+meets args (OneOf operands) cell = equals_one args cell operands
 
 -- whether a row of the predicate's place meets the predicate
 abbrev pub holds : List Value → Pred → List Value → Bool

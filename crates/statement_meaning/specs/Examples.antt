@@ -8,7 +8,7 @@ use Rattle.row_values.specs.declared.statement.Place.{Place}
 use Rattle.row_values.specs.declared.statement.ColRef.{ColRef}
 use Rattle.row_values.specs.declared.statement.Operand.TheVariants.{Literal, Param}
 use Rattle.row_values.specs.declared.statement.Test.{Test}
-use Rattle.row_values.specs.declared.statement.Test.TheVariants.{Lt, Le, Ge, Between}
+use Rattle.row_values.specs.declared.statement.Test.TheVariants.{Lt, Le, Ge, Between, OneOf}
 use Rattle.row_values.specs.declared.statement.Item.{Item}
 use Rattle.row_values.specs.declared.statement.Item.TheVariants.{Column, CountAll, Sum, Min, Max}
 use Rattle.row_values.specs.declared.statement.OrderKey.{OrderKey}
@@ -64,6 +64,20 @@ crossed_ends = refl
 
 vector_crossed_ends : vector_of (on_v (Between (Param 0) (Param 1))) ends (int 7 ∷ int 5 ∷ []) ≡ 1 ∷ []
 vector_crossed_ends = refl
+
+-- a row that equals two of the operands is one row
+abbrev one_of_three : Test
+one_of_three = OneOf (Param 0 ∷ Literal (int 7) ∷ Param 1 ∷ [])
+
+two_equal_operands : lines (meaning_of (on_v one_of_three) ends (int 5 ∷ int 5 ∷ [])) ≡ codes "row 5" ∷ codes "row 5" ∷ codes "row 7" ∷ []
+unfolding digits
+two_equal_operands = refl
+
+vector_two_equal_operands : vector_of (on_v one_of_three) ends (int 5 ∷ int 5 ∷ []) ≡ 3 ∷ []
+vector_two_equal_operands = refl
+
+vector_one_operand_met : vector_of (on_v one_of_three) ends (int 5000 ∷ int 6000 ∷ []) ≡ 1 ∷ []
+vector_one_operand_met = refl
 
 vector_below_least : vector_of (on_v (Lt (Param 0))) ends (least ∷ []) ≡ 1 ∷ []
 vector_below_least = refl
