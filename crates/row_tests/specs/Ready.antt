@@ -27,7 +27,7 @@ is_number None = false
 is_number (Some (Int number)) = true
 is_number (Some (Text text)) = false
 
--- whether all operands of a test stand for whole numbers
+-- whether a test is against whole numbers: each of its operands stands for one, and it is no IN, which is tested operand by operand
 abbrev pub has_numbers : List Value → Test → Bool
 has_numbers args (test.Lt a) = is_number (operand_value args a)
 has_numbers args (test.Le a) = is_number (operand_value args a)
@@ -35,6 +35,7 @@ has_numbers args (test.Gt a) = is_number (operand_value args a)
 has_numbers args (test.Ge a) = is_number (operand_value args a)
 has_numbers args (test.Eq a) = is_number (operand_value args a)
 has_numbers args (test.Between a b) = is_number (operand_value args a) && is_number (operand_value args b)
+has_numbers args (test.OneOf operands) = false
 
 -- whether a cell is a whole number that meets it
 abbrev pub is_number_in : NumberTest → Option Value → Bool

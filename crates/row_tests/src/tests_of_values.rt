@@ -1,10 +1,11 @@
 //! Tests of a single value.
 //!
 //! `meets_test` tests any value; `number_test` makes a test against whole numbers alone, which compares them at once.
+//! An IN stays as it is: its numbers would make every test as large as the longest IN, and tests are copied.
 ghost use Rattle.std.specs.Prelude.{◌≡◌, Some, IfSome, is_some, option_map};
 ghost use Rattle.row_values.specs.declared.values.Value.{Value as AnyValue};
 ghost use Rattle.std.specs.Prelude.{Option as Maybe};
-ghost use Rattle.statement_meaning.specs.Conditions.{operand_value, order_between, meets};
+ghost use Rattle.statement_meaning.specs.Conditions.{operand_value, order_between, equals_one, meets};
 ghost use Rattle.row_tests.specs.Ready.{number_holds, is_number_in, is_number, has_numbers};
 
 use row_values::{Operand, Test, Value, compare};
@@ -41,6 +42,18 @@ fn order_to(args: &[Value], cell: &Value, operand: &Operand) -> Option<Ordering>
     }
 }
 
+/// Whether a cell equals one of the operands.
+fn is_one_of(args: &[Value], operands: &[Operand], cell: &Value) -> bool
+    ensures { result ≡ equals_one args.now (Some cell.now) operands.now }
+{
+    for operand in operands {
+        if order_to(args, cell, operand).is_some_and(|order| order.is_eq()) {
+            return true;
+        }
+    }
+    false
+}
+
 /// Whether a cell meets a test.
 pub fn meets_test(args: &[Value], test: &Test, cell: &Value) -> bool
     ensures { result ≡ meets args.now test.now (Some cell.now) }
@@ -55,6 +68,7 @@ pub fn meets_test(args: &[Value], test: &Test, cell: &Value) -> bool
             order_to(args, cell, a).is_some_and(|order| order.is_ge())
                 && order_to(args, cell, b).is_some_and(|order| order.is_le())
         }
+        Test::OneOf(operands) => is_one_of(args, operands.as_slice(), cell),
     }
 }
 
@@ -69,7 +83,7 @@ fn number_of(args: &[Value], operand: &Operand) -> Option<i64>
     }
 }
 
-/// The test against whole numbers that this test is; none exactly where an operand is none.
+/// The test against whole numbers that this test is; none exactly where an operand is none, or it is an IN.
 pub fn number_test(args: &[Value], test: &Test) -> Option<NumberTest>
     ensures found { is_some result ≡ has_numbers args.now test.now }
     ensures value { IfSome result (λ numbers. (cell : Maybe AnyValue) → is_number_in numbers cell ≡ meets args.now test.now cell) }
@@ -81,6 +95,7 @@ pub fn number_test(args: &[Value], test: &Test) -> Option<NumberTest>
         Test::Ge(a) => Some(NumberTest::Ge(number_of(args, a)?)),
         Test::Eq(a) => Some(NumberTest::Eq(number_of(args, a)?)),
         Test::Between(a, b) => Some(NumberTest::Between(number_of(args, a)?, number_of(args, b)?)),
+        Test::OneOf(_) => None,
     }
 }
 
