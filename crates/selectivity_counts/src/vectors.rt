@@ -4,7 +4,7 @@
 //! predicates. Their tests are made ready first, and then asked of each row in turn. The way in is `vector`.
 ghost use Rattle.std.specs.Prelude.{◌≡◌, ◌≤◌, ◌<◌, ◌+◌, ◌++◌, ◌∷◌, ◌==◌, not, List, [], All, length, map, max};
 ghost use Rattle.row_values.specs.declared.values.Value.{Value as AnyValue};
-ghost use Rattle.row_values.specs.Statements.{is_parameterised, operand_parameters, test_parameters, selectivity_count, selectivity_count as count_of};
+ghost use Rattle.row_values.specs.Statements.{is_parameterised, operand_parameters, operands_parameters, test_parameters, selectivity_count, selectivity_count as count_of};
 ghost use Rattle.statement_meaning.specs.Vectors as meant;
 ghost use Rattle.statement_meaning.specs.Vectors.{vector_of};
 ghost use Rattle.selectivity_counts.specs.Counts.{selectivities_of};
@@ -79,6 +79,18 @@ fn is_parameter(operand: &Operand) -> bool
     }
 }
 
+/// Whether one of the operands is a parameter.
+fn some_is_parameter(operands: &[Operand]) -> bool
+    ensures { result ≡ not (length (operands_parameters operands.now) == 0) }
+{
+    for operand in operands {
+        if is_parameter(operand) {
+            return true;
+        }
+    }
+    false
+}
+
 /// Whether an operand of the test is a parameter.
 fn has_parameter(test: &Test) -> bool
     ensures { result ≡ not (length (test_parameters test.now) == 0) }
@@ -90,6 +102,7 @@ fn has_parameter(test: &Test) -> bool
         Test::Ge(a) => is_parameter(a),
         Test::Eq(a) => is_parameter(a),
         Test::Between(a, b) => is_parameter(a) || is_parameter(b),
+        Test::OneOf(operands) => some_is_parameter(operands.as_slice()),
     }
 }
 
