@@ -1,19 +1,13 @@
 -- The ends of a run, and what the rows of a scan mean.
-use Rattle.std.proofs.Common.{ℕ, ◌≡◌, ◌≤◌, ◌<◌, ◌+◌, ◌*◌, ◌==◌, ◌&&◌, ◌∙◌, List, [], ◌∷◌, length, map, nat_le, Bool, true, false, Option, Some, None, Ok, Err, ap, sym, refl, arith, length-append, if◌then◌else◌}
+use Rattle.std.proofs.Common.{ℕ, ◌≡◌, ◌≤◌, ◌<◌, ◌+◌, ◌==◌, ◌&&◌, ◌∙◌, List, [], ◌∷◌, length, map, nat_le, Bool, true, false, Option, Some, None, Ok, Err, ap, sym, refl, arith, if◌then◌else◌}
 use Rattle.std.specs.List.{slice_get}
-use Rattle.std.specs.Option.{option_map_or, unwrap_or}
+use Rattle.std.specs.Option.{option_map_or}
 use Rattle.std.proofs.lemmas.Bool.Decides.{nat_tests}
 use Rattle.std.proofs.lemmas.List.{length-map}
 use Rattle.row_values.specs.Names.{canonical_name}
-use Rattle.row_values.specs.Statements.{Statement, IsSoundQuery, kinds_of, kind_at, test_parameters, operand_parameters, selectivity_count}
+use Rattle.row_values.specs.Statements.{Statement, IsSoundQuery, kinds_of, selectivity_count}
 use Rattle.row_values.specs.declared.refusals.Refusal.{Refusal}
-use Rattle.row_values.specs.declared.statement.Operand.{Operand}
-use Rattle.row_values.specs.declared.statement.Operand.TheVariants.{Literal, Param}
 use Rattle.row_values.specs.declared.statement.Place.{Place}
-use Rattle.row_values.specs.declared.statement.Pred.{Pred}
-use Rattle.row_values.specs.declared.statement.Test.{Test}
-use Rattle.row_values.specs.declared.statement.Test.TheVariants.{Lt, Le, Gt, Ge, Eq, Between}
-use Rattle.row_values.specs.declared.values.Kind.TheVariants as kind
 use Rattle.row_values.specs.declared.values.Value.{Value}
 use Rattle.csv_tables.specs.Tables.{TableValue}
 use Rattle.statement_meaning.specs.Combinations.{kept_combinations}
@@ -23,6 +17,7 @@ use Rattle.statement_meaning.proofs.Plain.{plain_rows_of_one}
 use Rattle.script_report.specs.declared.replies.Execution.{Execution}
 use Rattle.script_report.specs.declared.replies.Reply.{Reply}
 use Rattle.script_report.specs.declared.replies.Reply.TheVariants as reply
+use Rattle.row_values.proofs.Parameters.{length-kinds_of}
 use Rattle.session_model.specs.Faults.{refusal}
 use Rattle.session_model.specs.Running.{args_refusal, is_built, executing_of, with_args, running, running_of, execution_of}
 use Rattle.session_model.specs.State.{State, TableState, StatementState, find_statement, find_table, rows_named, tables_of}
@@ -86,29 +81,8 @@ executed number name q rows args numbers e lines b k few h l =
 
 -- Parameters.
 
-few_operand : (a : Operand) → length (operand_parameters a) ≤ 1
-few_operand (Literal value) = omega arith
-few_operand (Param number) = omega arith
-
-few_test : (t : Test) → length (test_parameters t) ≤ 2
-few_test (Lt a) = let h = few_operand a in omega arith
-few_test (Le a) = let h = few_operand a in omega arith
-few_test (Gt a) = let h = few_operand a in omega arith
-few_test (Ge a) = let h = few_operand a in omega arith
-few_test (Eq a) = let h = few_operand a in omega arith
-few_test (Between a b) = let h = few_operand a in let k = few_operand b in let e = length-append (operand_parameters a) (operand_parameters b) in omega arith
-
-few_of : (places : List Place) (preds : List Pred) → length (kinds_of places preds) ≤ 2 * length preds
-few_of places [] = omega arith
-few_of places (pred ∷ preds) =
-    let h = few_test pred.test in
-    let more = few_of places preds in
-    let m = length-map (test_parameters pred.test) (λ _. unwrap_or (kind_at places pred.at) kind.Int) in
-    let e = length-append (map (λ _. unwrap_or (kind_at places pred.at) kind.Int) (test_parameters pred.test)) (kinds_of places preds) in
-    omega arith
-
-pub few_kinds : (q : Statement) → IsSoundQuery q → length (kinds_of q.places q.preds) ≤ 64
-few_kinds q s = let h = few_of q.places q.preds in let c = s.few_conditions in omega arith
+pub few_kinds : (q : Statement) → IsSoundQuery q → length (kinds_of q.places q.preds) ≤ 128
+few_kinds q s = omega (arith, length-kinds_of q.places q.preds s.preds, s.few_selectivities)
 
 -- Steps.
 
