@@ -178,6 +178,12 @@ fn tables_and_statements(rt: HostRuntime) -> Result<(), Fail> {
             Status::DoneRefused,
         ),
         (
+            "an IN: two equal operands, none, one of another kind, seventeen",
+            "load t t.csv\nprepare q SELECT v FROM t WHERE v IN (?, ?, 7)\nrun q 5 5\nrun q 5 12\nprepare e SELECT v FROM t WHERE v IN ()\nprepare x SELECT v FROM t WHERE v IN ('x')\nprepare m SELECT v FROM t WHERE v IN (1,2,3,4,5,6,7,8,9,10,11,12,13,14,15,16,17)\n",
+            "1 loaded t rows 3 columns 1\n2 prepared q tables 1 predicates 1 parameters 2\n3 ran q execution 1\nplan rows(seq(t))\ncost 3298534883328\nat 1\nrow 5\nend 1\n4 ran q execution 2\nplan rows(seq(t))\ncost 3298534883328\nat 2\nrow 5\nrow 12\nend 2\n5 refused 1 syntax\n6 refused 7 misfit v\n7 refused 8 too many operands\n",
+            Status::DoneRefused,
+        ),
+        (
             "statements that can't be bound",
             "load t t.csv\nprepare q SELECT v FROM u\nprepare q SELECT a.v FROM t a, t a\nprepare q SELECT v FROM t a, t b\nprepare q SELECT v FROM t WHERE v = 'x'\nprepare q SELECT SUM(v) FROM t\nprepare q SELECT v FROM t, t a, t b, t c, t d, t e\nprepare q SELECT v FROM t\nprepare q SELECT w FROM u\n",
             "1 loaded t rows 3 columns 1\n2 refused 2 unknown table u\n3 refused 6 name taken a\n4 refused 4 ambiguous v\n5 refused 7 misfit v\n6 refused 19 not grouped SUM(v)\n7 refused 4 ambiguous v\n8 prepared q tables 1 predicates 0 parameters 0\n9 refused 6 name taken q\n",
