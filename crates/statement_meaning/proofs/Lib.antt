@@ -1,5 +1,11 @@
+pub mod Counting
 pub mod Counts
+pub mod FullOrders
+pub mod InOrder
+pub mod Joining
+pub mod Merging
 pub mod OnePlace
+pub mod PlaceSets
 pub mod Plain
 pub mod Rising
 pub mod Values

@@ -6,12 +6,7 @@ use Rattle.std.proofs.lemmas.List.Elements.{All-nil, All-cons, All-head, All-tai
 use Rattle.std.proofs.lemmas.List.Concat.{flat_map-append}
 use Rattle.statement_meaning.specs.Combinations.{World, row_numbers, combinations, sizes_from, keeps, kept}
 use Rattle.statement_meaning.specs.Meaning.{is_lower}
-use Rattle.statement_meaning.specs.Sorting.{put_in, in_order}
-
--- no element is less than one before it
-abbrev pub Rises : {X : Type 0} → (X → X → Bool) → List X → Type 0
-Rises lt [] = Unit {0}
-Rises lt (x ∷ xs) = All (λ y. lt y x ≡ false) xs × Rises lt xs
+use Rattle.statement_meaning.specs.Sorting.{put_in, in_order, Rises}
 
 put_first : {X : Type 0} (lt : X → X → Bool) (x : X) (xs : List X) → All (λ y. lt y x ≡ false) xs → put_in lt x xs ≡ x ∷ xs
 put_first lt x [] a = refl
@@ -47,7 +42,7 @@ below zero = All-nil (λ r. r < zero)
 below (suc n) = All-push (λ r. r < suc n) (row_numbers n) n (All-weaker (λ r. r < n) (λ r. r < suc n) (λ r h. omega (arith, h)) (row_numbers n) (below n)) (omega arith)
 
 -- each row number is below how many rows its place has
-abbrev InBox : List ℕ → List ℕ → Type 0
+abbrev pub InBox : List ℕ → List ℕ → Type 0
 InBox [] [] = Unit {0}
 InBox [] (r ∷ rs) = ⊥
 InBox (n ∷ ns) [] = ⊥
@@ -57,7 +52,7 @@ put_box : (n : ℕ) (ns : List ℕ) (cs : List (List ℕ)) → All (InBox ns) cs
 put_box n ns cs a [] b = All-nil (InBox (n ∷ ns))
 put_box n ns cs a (q ∷ qs) b = All-append (InBox (n ∷ ns)) (map (λ c. q ∷ c) cs) _ (All-map (InBox (n ∷ ns)) (λ c. q ∷ c) cs (λ k d l. (All-head (λ r. r < n) q qs b, a k d l))) (put_box n ns cs a qs (All-tail (λ r. r < n) q qs b))
 
-all_box : (ns : List ℕ) → All (InBox ns) (combinations ns)
+pub all_box : (ns : List ℕ) → All (InBox ns) (combinations ns)
 all_box [] = All-cons (InBox []) [] [] tt (All-nil (InBox []))
 all_box (n ∷ ns) = put_box n ns (combinations ns) (all_box ns) (row_numbers n) (below n)
 

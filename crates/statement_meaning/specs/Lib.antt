@@ -1,7 +1,9 @@
 pub mod Combinations
 pub mod Conditions
 pub mod Examples
+pub mod FullOrder
 pub mod Meaning
+pub mod PartialCombinations
 pub mod Sorting
 pub mod Spelling
 pub mod Vectors

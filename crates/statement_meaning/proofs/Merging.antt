@@ -1,0 +1,97 @@
+-- What two combinations made one have at each place, and what of a combination stands at the places of a set.
+use Rattle.std.proofs.Common.{ℕ, ◌≡◌, ◌≢◌, ◌<◌, ◌≤◌, ◌+◌, suc, zero, Bool, true, false, List, [], ◌∷◌, length, replicate, get_or, set, cond, ap, sym, ◌∙◌, refl, arith, add-zero, zero-add, ◌⊎◌, inl, inr}
+use Rattle.std.proofs.lemmas.Bool.{false≢true, cases_eq, cases_lt, eq-eqb, ne_eqb}
+use Rattle.std.proofs.lemmas.List.{get_or-set_same, get_or-set_other, length-set, length-replicate, get_or-replicate, get_or_past, ext_get_or}
+use Rattle.statement_meaning.specs.Combinations.{World}
+use Rattle.statement_meaning.specs.PartialCombinations.{single, either, AreApart, Fits, merged_from, merged, placed}
+
+length-merged_from : (left : ℕ → Bool) (t : ℕ) (c d : List ℕ) → length c ≡ length d → length (merged_from left t c d) ≡ length c
+length-merged_from left t [] d l = refl
+length-merged_from left t (row ∷ rows) [] l = absurd (omega (arith, l))
+length-merged_from left t (row ∷ rows) (other ∷ others) l = ap suc (length-merged_from left (suc t) rows others (omega (arith, l)))
+
+pub length-merged : (left : ℕ → Bool) (c d : List ℕ) → length c ≡ length d → length (merged left c d) ≡ length c
+length-merged left c d l = length-merged_from left 0 c d l
+
+merged_from_at : (left : ℕ → Bool) (t : ℕ) (c d : List ℕ) → length c ≡ length d → (i : ℕ) → get_or (merged_from left t c d) i 0 ≡ cond (left (t + i)) (get_or c i 0) (get_or d i 0)
+merged_from_at left t [] [] l i = same_both (left (t + i))
+  where
+    same_both : (b : Bool) → ◌≡◌ {A = ℕ} 0 (cond b 0 0)
+    same_both true = refl
+    same_both false = refl
+merged_from_at left t [] (other ∷ others) l i = absurd (omega (arith, l))
+merged_from_at left t (row ∷ rows) [] l i = absurd (omega (arith, l))
+merged_from_at left t (row ∷ rows) (other ∷ others) l zero = rw add-zero refl
+merged_from_at left t (row ∷ rows) (other ∷ others) l (suc i) =
+    let e : t + suc i ≡ suc t + i = omega arith in
+    rw e (merged_from_at left (suc t) rows others (omega (arith, l)) i)
+
+-- at a place of the first's set stands its row, at any other the second's
+pub merged_at : (left : ℕ → Bool) (c d : List ℕ) → length c ≡ length d → (place : ℕ) → get_or (merged left c d) place 0 ≡ cond (left place) (get_or c place 0) (get_or d place 0)
+merged_at left c d l place = merged_from_at left 0 c d l place ∙ ap (λ (n : ℕ). cond (left n) (get_or c place 0) (get_or d place 0)) (zero-add place)
+
+pub merged_first : (left : ℕ → Bool) (c d : List ℕ) → length c ≡ length d → (place : ℕ) → left place ≡ true → get_or (merged left c d) place 0 ≡ get_or c place 0
+merged_first left c d l place h = merged_at left c d l place ∙ ap (λ (b : Bool). cond b (get_or c place 0) (get_or d place 0)) h
+
+pub merged_second : (left : ℕ → Bool) (c d : List ℕ) → length c ≡ length d → (place : ℕ) → left place ≡ false → get_or (merged left c d) place 0 ≡ get_or d place 0
+merged_second left c d l place h = merged_at left c d l place ∙ ap (λ (b : Bool). cond b (get_or c place 0) (get_or d place 0)) h
+
+-- and this says which list it is
+pub merged_is : (left : ℕ → Bool) (c d e : List ℕ) → length c ≡ length d → length e ≡ length c → ((place : ℕ) → place < length e → get_or e place 0 ≡ cond (left place) (get_or c place 0) (get_or d place 0)) → merged left c d ≡ e
+merged_is left c d e l m h = ext_get_or 0 (merged left c d) e (length-merged left c d l ∙ sym m) (λ i k. merged_at left c d l i ∙ sym (h i (omega (arith, k, length-merged left c d l, m))))
+
+-- a combination with 0 at the places that are not in
+restricted_from : (ℕ → Bool) → ℕ → List ℕ → List ℕ
+restricted_from places t [] = []
+restricted_from places t (row ∷ rows) = cond (places t) row 0 ∷ restricted_from places (suc t) rows
+
+pub restricted : (ℕ → Bool) → List ℕ → List ℕ
+restricted places c = restricted_from places 0 c
+
+length-restricted_from : (places : ℕ → Bool) (t : ℕ) (c : List ℕ) → length (restricted_from places t c) ≡ length c
+unfolding restricted_from
+length-restricted_from places t [] = refl
+length-restricted_from places t (row ∷ rows) = ap suc (length-restricted_from places (suc t) rows)
+
+pub length-restricted : (places : ℕ → Bool) (c : List ℕ) → length (restricted places c) ≡ length c
+unfolding restricted
+length-restricted places c = length-restricted_from places 0 c
+
+restricted_from_at : (places : ℕ → Bool) (t : ℕ) (c : List ℕ) (i : ℕ) → get_or (restricted_from places t c) i 0 ≡ cond (places (t + i)) (get_or c i 0) 0
+unfolding restricted_from
+restricted_from_at places t [] i = same_both (places (t + i))
+  where
+    same_both : (b : Bool) → ◌≡◌ {A = ℕ} 0 (cond b 0 0)
+    same_both true = refl
+    same_both false = refl
+restricted_from_at places t (row ∷ rows) zero = rw add-zero refl
+restricted_from_at places t (row ∷ rows) (suc i) =
+    let e : t + suc i ≡ suc t + i = omega arith in
+    rw e (restricted_from_at places (suc t) rows i)
+
+pub restricted_at : (places : ℕ → Bool) (c : List ℕ) (place : ℕ) → get_or (restricted places c) place 0 ≡ cond (places place) (get_or c place 0) 0
+unfolding restricted
+restricted_at places c place = restricted_from_at places 0 c place ∙ ap (λ (n : ℕ). cond (places n) (get_or c place 0) 0) (zero-add place)
+
+pub restricted_in : (places : ℕ → Bool) (c : List ℕ) (place : ℕ) → places place ≡ true → get_or (restricted places c) place 0 ≡ get_or c place 0
+restricted_in places c place h = restricted_at places c place ∙ ap (λ (b : Bool). cond b (get_or c place 0) 0) h
+
+pub restricted_out : (places : ℕ → Bool) (c : List ℕ) (place : ℕ) → places place ≡ false → get_or (restricted places c) place 0 ≡ 0
+restricted_out places c place h = restricted_at places c place ∙ ap (λ (b : Bool). cond b (get_or c place 0) 0) h
+
+-- the combination over one place has its row there and 0 elsewhere
+zero_at : (n i : ℕ) → ◌≡◌ {A = ℕ} (get_or (replicate n 0) i 0) 0
+zero_at n i = by_range (cases_lt i n)
+  where
+    by_range : (i < n) ⊎ (n ≤ i) → ◌≡◌ {A = ℕ} (get_or (replicate n 0) i 0) 0
+    by_range (inl l) = get_or-replicate n i 0 0 l
+    by_range (inr g) = let z : ℕ = 0 in get_or_past (replicate n z) i z (rw (length-replicate n z) g)
+
+pub length-placed : (world : World) (place row : ℕ) → length (placed world place row) ≡ world.wide
+length-placed world place row = let z : ℕ = 0 in length-set (replicate world.wide z) place row ∙ length-replicate world.wide z
+
+pub placed_there : (world : World) (place row : ℕ) → place < world.wide → get_or (placed world place row) place 0 ≡ row
+placed_there world place row i = let z : ℕ = 0 in get_or-set_same (replicate world.wide z) place row 0 (rw (length-replicate world.wide z) i)
+
+pub placed_elsewhere : (world : World) (place row other : ℕ) → single place other ≡ false → get_or (placed world place row) other 0 ≡ 0
+placed_elsewhere world place row other h = let z : ℕ = 0 in get_or-set_other (replicate world.wide z) place other row 0 (λ e. false≢true (sym h ∙ eq-eqb place other (sym e))) ∙ zero_at world.wide other

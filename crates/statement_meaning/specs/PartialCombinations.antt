@@ -1,0 +1,104 @@
+-- Combinations over some of the places, and what a join makes of two lists of them.
+--
+-- A set of places is the test whether a place is in. A partial combination has 0 at the places that are not in.
+use Rattle.std.specs.Prelude.{ℕ, suc, ◌≡◌, ◌<◌, Bool, true, false, ◌&&◌, ◌||◌, ◌==◌, nat_eq, nat_lt, List, [], ◌∷◌, length, map, replicate, set, slice_index_or, All, if◌then◌else◌}
+use Rattle.std.specs.List.{filter, flat_map}
+use Rattle.std.specs.Str.{bytes_eq}
+use Rattle.row_values.specs.declared.statement.Edge.{Edge}
+use Rattle.statement_meaning.specs.Combinations.{World, edges_hold}
+use Rattle.statement_meaning.specs.Sorting.{times}
+
+-- the set of this place alone, of the places of two sets, and of all places of a statement
+abbrev pub single : ℕ → ℕ → Bool
+single place other = place == other
+
+abbrev pub either : (ℕ → Bool) → (ℕ → Bool) → ℕ → Bool
+either left right place = left place || right place
+
+abbrev pub all_places : World → ℕ → Bool
+all_places world place = nat_lt place world.wide
+
+-- no place is in both sets
+abbrev pub AreApart : (ℕ → Bool) → (ℕ → Bool) → Type 0
+AreApart left right = (place : ℕ) → left place ≡ true → right place ≡ false
+
+-- each place of the set is one of the statement
+abbrev pub AreThere : World → (ℕ → Bool) → Type 0
+AreThere world places = (place : ℕ) → places place ≡ true → place < world.wide
+
+-- each edge joins two different places of the statement
+pub record HasSoundEdges (world : World) : Type 0 where
+  pub there : All (λ edge. (edge.left.place < world.wide) × (edge.right.place < world.wide)) world.edges
+  pub two_places : All (λ edge. (edge.left.place == edge.right.place) ≡ false) world.edges
+
+-- whether an edge has both its places in a set, and whether it joins a place of one set to one of the other
+abbrev pub is_inside : (ℕ → Bool) → Edge → Bool
+is_inside places edge = places edge.left.place && places edge.right.place
+
+abbrev pub is_between : (ℕ → Bool) → (ℕ → Bool) → Edge → Bool
+is_between left right edge = (left edge.left.place && right edge.right.place) || (right edge.left.place && left edge.right.place)
+
+abbrev pub edges_inside : World → (ℕ → Bool) → List Edge
+edges_inside world places = filter (is_inside places) world.edges
+
+abbrev pub edges_between : World → (ℕ → Bool) → (ℕ → Bool) → List Edge
+edges_between world left right = filter (is_between left right) world.edges
+
+-- A combination over these places: each has a row that meets the predicates on it, every edge inside is met, and 0
+-- stands at the other places.
+pub record Fits (world : World) (places : ℕ → Bool) (c : List ℕ) : Type 0 where
+  pub long : length c ≡ world.wide
+  pub within : (place : ℕ) → places place ≡ true → (slice_index_or c place 0 < world.size place) × (world.passes place (slice_index_or c place 0) ≡ true)
+  pub zeros : (place : ℕ) → places place ≡ false → slice_index_or c place 0 ≡ 0
+  pub met : edges_hold world (edges_inside world places) c ≡ true
+
+-- whether two combinations are one
+abbrev pub is_same : List ℕ → List ℕ → Bool
+is_same = bytes_eq
+
+-- the list has each combination over these places once, and no other
+pub record Once (world : World) (places : ℕ → Bool) (cs : List (List ℕ)) : Type 0 where
+  pub only : All (Fits world places) cs
+  pub once : (c : List ℕ) → Fits world places c → times is_same c cs ≡ 1
+
+-- Two combinations made one, from this place on: the row of the first at the places of its set, else the second's.
+abbrev pub merged_from : (ℕ → Bool) → ℕ → List ℕ → List ℕ → List ℕ
+merged_from left place [] ds = []
+merged_from left place (row ∷ rows) [] = []
+merged_from left place (row ∷ rows) (other ∷ others) = (if left place then row else other) ∷ merged_from left (suc place) rows others
+
+abbrev pub merged : (ℕ → Bool) → List ℕ → List ℕ → List ℕ
+merged left c d = merged_from left 0 c d
+
+-- What a join makes of the combinations of its left side, where for each some of the right side are offered: those
+-- made one that meet every edge between the two sides, in the order of the left side.
+abbrev pub joined : World → (ℕ → Bool) → (ℕ → Bool) → (List ℕ → List (List ℕ)) → List (List ℕ) → List (List ℕ)
+joined world left right offered cs =
+    flat_map (λ c. filter (edges_hold world (edges_between world left right)) (map (merged left c) (offered c))) cs
+
+-- What is offered to a combination of the left side has no other than combinations of the right side, and each once
+-- that meets with it every edge between.
+pub record Offers (world : World) (left : ℕ → Bool) (right : ℕ → Bool) (c : List ℕ) (offered : List (List ℕ)) : Type 0 where
+  pub only : All (Fits world right) offered
+  pub once : (d : List ℕ) → Fits world right d → edges_hold world (edges_between world left right) (merged left c d) ≡ true → times is_same d offered ≡ 1
+
+-- The same where one place enters, and its rows are offered.
+
+-- the combination over one place that has this row there
+abbrev pub placed : World → ℕ → ℕ → List ℕ
+placed world place row = set (replicate world.wide 0) place row
+
+abbrev pub joined_rows : World → (ℕ → Bool) → ℕ → (List ℕ → List ℕ) → List (List ℕ) → List (List ℕ)
+joined_rows world left place offered cs =
+    flat_map (λ c. filter (edges_hold world (edges_between world left (single place))) (map (set c place) (offered c))) cs
+
+-- the rows of a place that meet the predicates on it, each once
+pub record RowsOnce (world : World) (place : ℕ) (rows : List ℕ) : Type 0 where
+  pub only : All (λ row. (row < world.size place) × (world.passes place row ≡ true)) rows
+  pub once : (row : ℕ) → row < world.size place → world.passes place row ≡ true → times nat_eq row rows ≡ 1
+
+-- What is offered to a combination has no other rows than these, and each once that meets with it every edge by which
+-- the place enters.
+pub record OffersRows (world : World) (left : ℕ → Bool) (place : ℕ) (c : List ℕ) (rows : List ℕ) : Type 0 where
+  pub only : All (λ row. (row < world.size place) × (world.passes place row ≡ true)) rows
+  pub once : (row : ℕ) → row < world.size place → world.passes place row ≡ true → edges_hold world (edges_between world left (single place)) (set c place row) ≡ true → times nat_eq row rows ≡ 1
