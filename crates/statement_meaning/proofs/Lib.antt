@@ -1,8 +1,12 @@
 pub mod Counting
 pub mod Counts
+pub mod Entering
+pub mod EqualCells
 pub mod FullOrders
 pub mod InOrder
+pub mod JoinOrder
 pub mod Joining
+pub mod Keeping
 pub mod Merging
 pub mod OnePlace
 pub mod PlaceSets

@@ -25,7 +25,7 @@ in_order-ties {X = X} lt t xs = in_order-rises lt xs (all_rise xs)
     all_rise [] = tt
     all_rise (y ∷ ys) = (λ k d l. t _ y, all_rise ys)
 
-filter_rises : {X : Type 0} (lt : X → X → Bool) (p : X → Bool) (xs : List X) → Rises lt xs → Rises lt (filter p xs)
+pub filter_rises : {X : Type 0} (lt : X → X → Bool) (p : X → Bool) (xs : List X) → Rises lt xs → Rises lt (filter p xs)
 filter_rises lt p [] r = tt
 filter_rises lt p (x ∷ xs) r = by_test (p x) (filter_rises lt p xs r.1)
   where
@@ -33,7 +33,7 @@ filter_rises lt p (x ∷ xs) r = by_test (p x) (filter_rises lt p xs r.1)
     by_test true m = (All-filter p (λ y. lt y x ≡ false) xs r.0, m)
     by_test false m = m
 
-append_rises : {X : Type 0} (lt : X → X → Bool) (xs ys : List X) → Rises lt xs → Rises lt ys → All (λ x. All (λ y. lt y x ≡ false) ys) xs → Rises lt (xs ++ ys)
+pub append_rises : {X : Type 0} (lt : X → X → Bool) (xs ys : List X) → Rises lt xs → Rises lt ys → All (λ x. All (λ y. lt y x ≡ false) ys) xs → Rises lt (xs ++ ys)
 append_rises lt [] ys r s h = s
 append_rises lt (x ∷ xs) ys r s h = (All-append (λ y. lt y x ≡ false) xs ys r.0 (All-head (λ x. All (λ y. lt y x ≡ false) ys) x xs h), append_rises lt xs ys r.1 s (All-tail (λ x. All (λ y. lt y x ≡ false) ys) x xs h))
 

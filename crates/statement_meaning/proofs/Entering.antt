@@ -1,0 +1,230 @@
+-- One place enters a join: the case of one place of the law of joins.
+use Rattle.std.proofs.Common.{ℕ, ◌≡◌, ◌≢◌, ◌<◌, ◌++◌, suc, zero, Bool, true, false, ◌&&◌, ◌||◌, ◌==◌, List, [], ◌∷◌, length, get_or, set, map, cond, ap, sym, ◌∙◌, refl, arith, subst, ◌⊎◌, inl, inr}
+use Rattle.std.specs.Prelude.{filter, flat_map, All, nat_eq, slice_get, Option, Some}
+use Rattle.std.proofs.lemmas.Bool.{false≢true, eqb-true, eq-eqb, ne_eqb}
+use Rattle.std.proofs.lemmas.List.{ext_get_or, get_or-set_same, get_or-set_other, length-set}
+use Rattle.std.proofs.lemmas.List.Elements.{All-nil, All-cons, All-head, All-tail, All-filter, filter_passes}
+use Rattle.row_values.specs.declared.statement.Edge.{Edge}
+use Rattle.statement_meaning.specs.Combinations.{World, row_numbers, edge_holds, edges_hold}
+use Rattle.statement_meaning.specs.PartialCombinations.{single, either, AreApart, HasSoundEdges, is_inside, is_between, edges_inside, edges_between, Fits, is_same, Once, merged, joined, Offers, placed, joined_rows, RowsOnce, OffersRows}
+use Rattle.statement_meaning.specs.Sorting.{times}
+use Rattle.statement_meaning.proofs.Counting.{IsExact, exact_combinations, exact_numbers, HaveSame, all_of_same, times-filter, times_row_numbers}
+use Rattle.statement_meaning.proofs.Joining.{joined_once}
+use Rattle.statement_meaning.proofs.Merging.{length-merged, merged_first, merged_second, merged_is, length-placed, placed_there, placed_elsewhere}
+use Rattle.statement_meaning.proofs.Rising.{below}
+
+-- a place that isn't in the set is apart from it
+pub single_apart : (left : ℕ → Bool) (place : ℕ) → left place ≡ false → AreApart left (single place)
+single_apart left place out other h = ne_eqb place other (λ e. false≢true (sym out ∙ (ap left e ∙ h)))
+
+-- The rows of a place as combinations over that place.
+
+-- no edge is inside one place
+one_place_edges : (place : ℕ) (es : List Edge) → All (λ edge. (edge.left.place == edge.right.place) ≡ false) es → filter (is_inside (single place)) es ≡ []
+one_place_edges place [] a = refl
+one_place_edges place (edge ∷ es) a = ap (λ (b : Bool). cond b (edge ∷ filter (is_inside (single place)) es) (filter (is_inside (single place)) es)) (by_ends (place == edge.left.place) refl (place == edge.right.place) refl) ∙ one_place_edges place es (All-tail (λ edge. (edge.left.place == edge.right.place) ≡ false) edge es a)
+  where
+    by_ends : (x : Bool) → (place == edge.left.place) ≡ x → (y : Bool) → (place == edge.right.place) ≡ y → ((place == edge.left.place) && (place == edge.right.place)) ≡ false
+    by_ends true p true q = absurd (false≢true (sym (All-head (λ edge. (edge.left.place == edge.right.place) ≡ false) edge es a) ∙ eq-eqb edge.left.place edge.right.place (sym (eqb-true place edge.left.place p) ∙ eqb-true place edge.right.place q)))
+    by_ends true p false q = rw (p, q) refl
+    by_ends false p y q = rw p refl
+
+pub row_fits : (world : World) → HasSoundEdges world → (place : ℕ) → place < world.wide → (row : ℕ) → row < world.size place → world.passes place row ≡ true → Fits world (single place) (placed world place row)
+row_fits world sound place i row a b = record {
+  long = length-placed world place row;
+  within = λ other h. at_it other (eqb-true place other h);
+  zeros = λ other h. placed_elsewhere world place row other h;
+  met = ap (λ (es : List Edge). edges_hold world es (placed world place row)) (one_place_edges place world.edges sound.two_places);
+}
+  where
+    at_it : (other : ℕ) → place ≡ other → (get_or (placed world place row) other 0 < world.size other) × (world.passes other (get_or (placed world place row) other 0) ≡ true)
+    at_it other e = subst (λ (other : ℕ). (get_or (placed world place row) other 0 < world.size other) × (world.passes other (get_or (placed world place row) other 0) ≡ true)) e (rw (placed_there world place row i) (a, b))
+
+-- a combination over one place is that of its row there
+pub placed_row : (world : World) (place : ℕ) → place < world.wide → (d : List ℕ) → Fits world (single place) d → placed world place (get_or d place 0) ≡ d
+placed_row world place i d g = ext_get_or 0 (placed world place (get_or d place 0)) d (length-placed world place (get_or d place 0) ∙ sym g.long) (λ other k. by_place other (single place other) refl)
+  where
+    by_place : (other : ℕ) (b : Bool) → single place other ≡ b → get_or (placed world place (get_or d place 0)) other 0 ≡ get_or d other 0
+    by_place other true e = subst (λ (other : ℕ). get_or (placed world place (get_or d place 0)) other 0 ≡ get_or d other 0) (eqb-true place other e) (placed_there world place (get_or d place 0) i)
+    by_place other false e = placed_elsewhere world place (get_or d place 0) other e ∙ sym (g.zeros other e)
+
+same_placed : (world : World) (place : ℕ) → place < world.wide → (d : List ℕ) → Fits world (single place) d → (row : ℕ) → is_same d (placed world place row) ≡ nat_eq (get_or d place 0) row
+same_placed world place i d g row = by_test (is_same d (placed world place row)) refl (nat_eq (get_or d place 0) row) refl
+  where
+    by_test : (b : Bool) → is_same d (placed world place row) ≡ b → (k : Bool) → nat_eq (get_or d place 0) row ≡ k → is_same d (placed world place row) ≡ nat_eq (get_or d place 0) row
+    by_test true e true h = e ∙ sym h
+    by_test false e false h = e ∙ sym h
+    by_test true e false h =
+        let there : get_or d place 0 ≡ row = ap (λ (z : List ℕ). get_or z place 0) (exact_combinations.one d (placed world place row) e) ∙ placed_there world place row i in
+        absurd (false≢true (sym h ∙ eq-eqb (get_or d place 0) row there))
+    by_test false e true h =
+        let whole : placed world place row ≡ d = ap (placed world place) (sym (eqb-true (get_or d place 0) row h)) ∙ placed_row world place i d g in
+        absurd (false≢true (sym e ∙ (ap (is_same d) whole ∙ exact_combinations.itself d)))
+
+times_placed : (world : World) (place : ℕ) → place < world.wide → (d : List ℕ) → Fits world (single place) d → (rows : List ℕ) → times is_same d (map (placed world place) rows) ≡ times nat_eq (get_or d place 0) rows
+times_placed world place i d g [] = refl
+times_placed world place i d g (row ∷ rows) = rw (same_placed world place i d g row, times_placed world place i d g rows) refl
+
+all_placed : (world : World) → HasSoundEdges world → (place : ℕ) → place < world.wide → (rows : List ℕ) → All (λ row. (row < world.size place) × (world.passes place row ≡ true)) rows → All (Fits world (single place)) (map (placed world place) rows)
+all_placed world sound place i [] a = All-nil (Fits world (single place))
+all_placed world sound place i (row ∷ rows) a =
+    let here = All-head (λ row. (row < world.size place) × (world.passes place row ≡ true)) row rows a in
+    All-cons (Fits world (single place)) (placed world place row) _ (row_fits world sound place i row here.0 here.1) (all_placed world sound place i rows (All-tail (λ row. (row < world.size place) × (world.passes place row ≡ true)) row rows a))
+
+-- the rows of a place that meet its predicates, each once, are the combinations over that place: the first step of each plan
+pub rows_once : (world : World) → HasSoundEdges world → (place : ℕ) → place < world.wide → (rows : List ℕ) → RowsOnce world place rows → Once world (single place) (map (placed world place) rows)
+rows_once world sound place i rows o = record {
+  only = all_placed world sound place i rows o.only;
+  once = λ d g. let here = g.within place (eq-eqb place place refl) in times_placed world place i d g rows ∙ o.once (get_or d place 0) here.0 here.1;
+}
+
+-- A combination with one more row.
+
+pub merged_placed : (world : World) (left : ℕ → Bool) (place : ℕ) → left place ≡ false → place < world.wide → (c : List ℕ) → Fits world left c → (row : ℕ) → merged left c (placed world place row) ≡ set c place row
+merged_placed world left place out i c f row = merged_is left c (placed world place row) (set c place row) (f.long ∙ sym (length-placed world place row)) (length-set c place row) (λ other k. by_place other (single place other) refl)
+  where
+    by_set : (other : ℕ) → single place other ≡ false → (b : Bool) → left other ≡ b → get_or c other 0 ≡ cond b (get_or c other 0) (get_or (placed world place row) other 0)
+    by_set other n true e = refl
+    by_set other n false e = f.zeros other e ∙ sym (placed_elsewhere world place row other n)
+
+    by_place : (other : ℕ) (b : Bool) → single place other ≡ b → get_or (set c place row) other 0 ≡ cond (left other) (get_or c other 0) (get_or (placed world place row) other 0)
+    by_place other true e = subst (λ (other : ℕ). get_or (set c place row) other 0 ≡ cond (left other) (get_or c other 0) (get_or (placed world place row) other 0)) (eqb-true place other e)
+        (get_or-set_same c place row 0 (rw f.long i) ∙ sym (ap (λ (b : Bool). cond b (get_or c place 0) (get_or (placed world place row) place 0)) out ∙ placed_there world place row i))
+    by_place other false e = get_or-set_other c place other row 0 (λ q. false≢true (sym e ∙ eq-eqb place other (sym q))) ∙ by_set other e (left other) refl
+
+rows_merged : (world : World) (left : ℕ → Bool) (place : ℕ) → left place ≡ false → place < world.wide → (c : List ℕ) → Fits world left c → (rows : List ℕ) → map (merged left c) (map (placed world place) rows) ≡ map (set c place) rows
+rows_merged world left place out i c f [] = refl
+rows_merged world left place out i c f (row ∷ rows) = rw (merged_placed world left place out i c f row, rows_merged world left place out i c f rows) refl
+
+-- the join by a place is the join by the combinations over that place
+pub joined_rows_is : (world : World) (left : ℕ → Bool) (place : ℕ) → left place ≡ false → place < world.wide → (offered : List ℕ → List ℕ) (cs : List (List ℕ)) → All (Fits world left) cs → joined world left (single place) (λ c. map (placed world place) (offered c)) cs ≡ joined_rows world left place offered cs
+joined_rows_is world left place out i offered [] a = refl
+joined_rows_is world left place out i offered (c ∷ cs) a =
+    rw (rows_merged world left place out i c (All-head (Fits world left) c cs a) (offered c), joined_rows_is world left place out i offered cs (All-tail (Fits world left) c cs a)) refl
+
+placed_offered : (world : World) → HasSoundEdges world → (left : ℕ → Bool) (place : ℕ) → left place ≡ false → place < world.wide → (c : List ℕ) → Fits world left c → (rows : List ℕ) → OffersRows world left place c rows → Offers world left (single place) c (map (placed world place) rows)
+placed_offered world sound left place out i c f rows o = record {
+  only = all_placed world sound place i rows o.only;
+  once = λ d g m.
+      let here = g.within place (eq-eqb place place refl) in
+      let whole : merged left c d ≡ set c place (get_or d place 0) = ap (merged left c) (sym (placed_row world place i d g)) ∙ merged_placed world left place out i c f (get_or d place 0) in
+      times_placed world place i d g rows ∙ o.once (get_or d place 0) here.0 here.1 (ap (edges_hold world (edges_between world left (single place))) (sym whole) ∙ m);
+}
+
+-- The join by a place: where each combination of the left side stands once, and each is offered the rows that it may be
+-- joined with, each combination of the left side's places and this one stands once in what is made.
+pub joined_rows_once : (world : World) → HasSoundEdges world → (left : ℕ → Bool) (place : ℕ) → left place ≡ false → place < world.wide → (offered : List ℕ → List ℕ) (cs : List (List ℕ)) → ((c : List ℕ) → Fits world left c → OffersRows world left place c (offered c)) → Once world left cs → Once world (either left (single place)) (joined_rows world left place offered cs)
+joined_rows_once world sound left place out i offered cs offers o =
+    subst (Once world (either left (single place))) (joined_rows_is world left place out i offered cs o.only)
+    (joined_once world left (single place) (single_apart left place out) (λ c. map (placed world place) (offered c)) cs (λ c f. placed_offered world sound left place out i c f (offered c) (offers c f)) o)
+
+-- Rows once, and what is offered.
+
+-- Rows in any order, of which those are left that pass a test and then meet the predicates, where all that meet the
+-- predicates pass the test: a scan (each passes), and an index range.
+pub tested_rows_once : (world : World) (place : ℕ) (rows : List ℕ) (p : ℕ → Bool) → HaveSame nat_eq (row_numbers (world.size place)) rows → ((row : ℕ) → row < world.size place → world.passes place row ≡ true → p row ≡ true) → RowsOnce world place (filter (world.passes place) (filter p rows))
+tested_rows_once world place rows p h t = record {
+  only = λ k d l. (All-filter (world.passes place) (λ row. row < world.size place) (filter p rows) (All-filter p (λ row. row < world.size place) rows (all_of_same nat_eq exact_numbers (λ row. row < world.size place) (row_numbers (world.size place)) rows h (below (world.size place)))) k d l, filter_passes (world.passes place) (filter p rows) k d l);
+  once = λ row i e. times-filter nat_eq exact_numbers (world.passes place) row e (filter p rows) ∙ (times-filter nat_eq exact_numbers p row (t row i e) rows ∙ (sym (h row) ∙ times_row_numbers (world.size place) row i));
+}
+
+-- the scan
+pub scanned_once : (world : World) (place : ℕ) → RowsOnce world place (filter (world.passes place) (row_numbers (world.size place)))
+scanned_once world place = record {
+  only = λ k d l. (All-filter (world.passes place) (λ row. row < world.size place) (row_numbers (world.size place)) (below (world.size place)) k d l, filter_passes (world.passes place) (row_numbers (world.size place)) k d l);
+  once = λ row i e. times-filter nat_eq exact_numbers (world.passes place) row e (row_numbers (world.size place)) ∙ times_row_numbers (world.size place) row i;
+}
+
+-- all rows that meet the predicates: the nested loop
+pub all_rows_offered : (world : World) (left : ℕ → Bool) (place : ℕ) (c rows : List ℕ) → RowsOnce world place rows → OffersRows world left place c rows
+all_rows_offered world left place c rows o = record { only = o.only; once = λ row i e m. o.once row i e }
+
+-- of these, those that pass a test which all pass that meet the edges by which the place enters: the hash join
+pub passing_rows_offered : (world : World) (left : ℕ → Bool) (place : ℕ) (c rows : List ℕ) (p : ℕ → Bool) → RowsOnce world place rows → ((row : ℕ) → row < world.size place → world.passes place row ≡ true → edges_hold world (edges_between world left (single place)) (set c place row) ≡ true → p row ≡ true) → OffersRows world left place c (filter p rows)
+passing_rows_offered world left place c rows p o h = record {
+  only = All-filter p (λ row. (row < world.size place) × (world.passes place row ≡ true)) rows o.only;
+  once = λ row i e m. times-filter nat_eq exact_numbers p row (h row i e m) rows ∙ o.once row i e;
+}
+
+-- rows in any order, of which those are left that pass such a test and then meet the predicates: the index probe
+pub tested_rows_offered : (world : World) (left : ℕ → Bool) (place : ℕ) (c rows : List ℕ) (p : ℕ → Bool) → HaveSame nat_eq (row_numbers (world.size place)) rows → ((row : ℕ) → row < world.size place → world.passes place row ≡ true → edges_hold world (edges_between world left (single place)) (set c place row) ≡ true → p row ≡ true) → OffersRows world left place c (filter (world.passes place) (filter p rows))
+tested_rows_offered world left place c rows p h t = record {
+  only = λ k d l. (All-filter (world.passes place) (λ row. row < world.size place) (filter p rows) (All-filter p (λ row. row < world.size place) rows (all_of_same nat_eq exact_numbers (λ row. row < world.size place) (row_numbers (world.size place)) rows h (below (world.size place)))) k d l, filter_passes (world.passes place) (filter p rows) k d l);
+  once = λ row i e m. times-filter nat_eq exact_numbers (world.passes place) row e (filter p rows) ∙ (times-filter nat_eq exact_numbers p row (t row i e m) rows ∙ (sym (h row) ∙ times_row_numbers (world.size place) row i));
+}
+
+-- What one edge asks.
+
+and_first : (a b : Bool) → (a && b) ≡ true → a ≡ true
+and_first true b h = refl
+and_first false b h = h
+
+and_second : (a b : Bool) → (a && b) ≡ true → b ≡ true
+and_second true b h = h
+and_second false b h = absurd (false≢true h)
+
+edge_of_filter : (world : World) (p : Edge → Bool) (es : List Edge) (c : List ℕ) → edges_hold world (filter p es) c ≡ true → (number : ℕ) (edge : Edge) → slice_get es number ≡ Some edge → p edge ≡ true → edge_holds world edge c ≡ true
+edge_of_filter world p [] c h number edge g k = cc
+edge_of_filter world p (first ∷ es) c h zero edge g k =
+    let e : first ≡ edge = cc in
+    let kept : p first ≡ true = ap p e ∙ k in
+    let front : edges_hold world (first ∷ filter p es) c ≡ true = ap (λ (b : Bool). edges_hold world (cond b (first ∷ filter p es) (filter p es)) c) (sym kept) ∙ h in
+    ap (λ (x : Edge). edge_holds world x c) (sym e) ∙ and_first (edge_holds world first c) (edges_hold world (filter p es) c) front
+edge_of_filter world p (first ∷ es) c h (suc number) edge g k = by_test (p first) refl (λ m. edge_of_filter world p es c m number edge g k)
+  where
+    by_test : (b : Bool) → p first ≡ b → (edges_hold world (filter p es) c ≡ true → edge_holds world edge c ≡ true) → edge_holds world edge c ≡ true
+    by_test true e more = more (and_second (edge_holds world first c) (edges_hold world (filter p es) c) (ap (λ (b : Bool). edges_hold world (cond b (first ∷ filter p es) (filter p es)) c) (sym e) ∙ h))
+    by_test false e more = more (ap (λ (b : Bool). edges_hold world (cond b (first ∷ filter p es) (filter p es)) c) (sym e) ∙ h)
+
+-- where two combinations meet the edges between, their rows at an edge's two places agree: its left place on the left side
+pub edge_asks : (world : World) (left right : ℕ → Bool) → AreApart left right → (c d : List ℕ) → Fits world left c → Fits world right d → edges_hold world (edges_between world left right) (merged left c d) ≡ true → (number : ℕ) (edge : Edge) → slice_get world.edges number ≡ Some edge → left edge.left.place ≡ true → right edge.right.place ≡ true → world.agree edge (get_or c edge.left.place 0) (get_or d edge.right.place 0) ≡ true
+edge_asks world left right apart c d f g m number edge at l r =
+    let same : length c ≡ length d = f.long ∙ sym g.long in
+    let met : edge_holds world edge (merged left c d) ≡ true = edge_of_filter world (is_between left right) world.edges (merged left c d) m number edge at (rw (l, r) refl) in
+    sym (ap (λ (row : ℕ). world.agree edge row (get_or (merged left c d) edge.right.place 0)) (merged_first left c d same edge.left.place l)
+         ∙ ap (λ (row : ℕ). world.agree edge (get_or c edge.left.place 0) row) (merged_second left c d same edge.right.place (out edge.right.place r))) ∙ met
+  where
+    out : (place : ℕ) → right place ≡ true → left place ≡ false
+    out place r = by_test (left place) refl
+      where
+        by_test : (b : Bool) → left place ≡ b → left place ≡ false
+        by_test true h = absurd (false≢true (sym (apart place h) ∙ r))
+        by_test false h = h
+
+-- and its left place on the right side
+pub edge_asks_back : (world : World) (left right : ℕ → Bool) → AreApart left right → (c d : List ℕ) → Fits world left c → Fits world right d → edges_hold world (edges_between world left right) (merged left c d) ≡ true → (number : ℕ) (edge : Edge) → slice_get world.edges number ≡ Some edge → right edge.left.place ≡ true → left edge.right.place ≡ true → world.agree edge (get_or d edge.left.place 0) (get_or c edge.right.place 0) ≡ true
+edge_asks_back world left right apart c d f g m number edge at r l =
+    let same : length c ≡ length d = f.long ∙ sym g.long in
+    let met : edge_holds world edge (merged left c d) ≡ true = edge_of_filter world (is_between left right) world.edges (merged left c d) m number edge at (rw (r, l) (or_end (left edge.left.place && right edge.right.place))) in
+    sym (ap (λ (row : ℕ). world.agree edge row (get_or (merged left c d) edge.right.place 0)) (merged_second left c d same edge.left.place (out edge.left.place r))
+         ∙ ap (λ (row : ℕ). world.agree edge (get_or d edge.left.place 0) row) (merged_first left c d same edge.right.place l)) ∙ met
+  where
+    or_end : (b : Bool) → (b || true) ≡ true
+    or_end true = refl
+    or_end false = refl
+
+    out : (place : ℕ) → right place ≡ true → left place ≡ false
+    out place r = by_test (left place) refl
+      where
+        by_test : (b : Bool) → left place ≡ b → left place ≡ false
+        by_test true h = absurd (false≢true (sym (apart place h) ∙ r))
+        by_test false h = h
+
+-- the same of a combination and a row of the place that enters
+pub row_asks : (world : World) (left : ℕ → Bool) (place : ℕ) → left place ≡ false → place < world.wide → (c : List ℕ) → Fits world left c → (row : ℕ) → edges_hold world (edges_between world left (single place)) (set c place row) ≡ true → (number : ℕ) (edge : Edge) → slice_get world.edges number ≡ Some edge → left edge.left.place ≡ true → edge.right.place ≡ place → world.agree edge (get_or c edge.left.place 0) row ≡ true
+row_asks world left place out i c f row m number edge at l r =
+    let met : edge_holds world edge (set c place row) ≡ true = edge_of_filter world (is_between left (single place)) world.edges (set c place row) m number edge at (rw (l, eq-eqb place edge.right.place (sym r)) refl) in
+    let old : get_or (set c place row) edge.left.place 0 ≡ get_or c edge.left.place 0 = get_or-set_other c place edge.left.place row 0 (λ q. false≢true (sym out ∙ (ap left (sym q) ∙ l))) in
+    let new : get_or (set c place row) edge.right.place 0 ≡ row = ap (λ (n : ℕ). get_or (set c place row) n 0) r ∙ get_or-set_same c place row 0 (rw f.long i) in
+    sym (ap (λ (x : ℕ). world.agree edge x (get_or (set c place row) edge.right.place 0)) old ∙ ap (λ (x : ℕ). world.agree edge (get_or c edge.left.place 0) x) new) ∙ met
+
+pub row_asks_back : (world : World) (left : ℕ → Bool) (place : ℕ) → left place ≡ false → place < world.wide → (c : List ℕ) → Fits world left c → (row : ℕ) → edges_hold world (edges_between world left (single place)) (set c place row) ≡ true → (number : ℕ) (edge : Edge) → slice_get world.edges number ≡ Some edge → edge.left.place ≡ place → left edge.right.place ≡ true → world.agree edge row (get_or c edge.right.place 0) ≡ true
+row_asks_back world left place out i c f row m number edge at r l =
+    let met : edge_holds world edge (set c place row) ≡ true = edge_of_filter world (is_between left (single place)) world.edges (set c place row) m number edge at (rw (l, eq-eqb place edge.left.place (sym r)) (or_end (left edge.left.place && single place edge.right.place))) in
+    let old : get_or (set c place row) edge.right.place 0 ≡ get_or c edge.right.place 0 = get_or-set_other c place edge.right.place row 0 (λ q. false≢true (sym out ∙ (ap left (sym q) ∙ l))) in
+    let new : get_or (set c place row) edge.left.place 0 ≡ row = ap (λ (n : ℕ). get_or (set c place row) n 0) r ∙ get_or-set_same c place row 0 (rw f.long i) in
+    sym (ap (λ (x : ℕ). world.agree edge x (get_or (set c place row) edge.right.place 0)) new ∙ ap (λ (x : ℕ). world.agree edge row x) old) ∙ met
+  where
+    or_end : (b : Bool) → (b || true) ≡ true
+    or_end true = refl
+    or_end false = refl
