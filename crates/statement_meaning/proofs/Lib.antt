@@ -1,8 +1,10 @@
+pub mod AnyOrder
 pub mod Counting
 pub mod Counts
 pub mod Entering
 pub mod EqualCells
 pub mod FullOrders
+pub mod Grouping
 pub mod InOrder
 pub mod JoinOrder
 pub mod Joining
