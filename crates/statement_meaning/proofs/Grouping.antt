@@ -105,7 +105,7 @@ together_in_order cmp o same s (x ∷ (y ∷ ys)) r =
 -- Which elements are heads.
 
 -- 1 where the first element is this one
-abbrev is_first : {X : Type 0} → (X → X → Bool) → X → List X → ℕ
+abbrev pub is_first : {X : Type 0} → (X → X → Bool) → X → List X → ℕ
 is_first one c [] = 0
 is_first one c (x ∷ xs) = cond (one c x) 1 0
 

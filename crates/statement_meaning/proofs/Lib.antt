@@ -5,6 +5,7 @@ pub mod Entering
 pub mod EqualCells
 pub mod FullOrders
 pub mod Grouping
+pub mod Groups
 pub mod InOrder
 pub mod JoinOrder
 pub mod Joining
