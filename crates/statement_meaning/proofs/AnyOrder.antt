@@ -23,7 +23,7 @@ use Rattle.statement_meaning.specs.PartialCombinations.{is_same}
 use Rattle.statement_meaning.specs.Sorting.{put_in, in_order, least_of, times}
 use Rattle.statement_meaning.proofs.Counting.{exact_combinations, HaveSame}
 use Rattle.statement_meaning.proofs.FullOrders.{cell_order_total, lower_full}
-use Rattle.statement_meaning.proofs.InOrder.{IsFullOrder, full_order_from, in_order_same, nothing_below_itself}
+use Rattle.statement_meaning.proofs.InOrder.{equal_of, IsFullOrder, full_order_from, in_order_same, nothing_below_itself}
 
 -- The least of several.
 
@@ -166,11 +166,6 @@ then_second : (x y : Ordering) → ordering_then x y ≡ Equal → y ≡ Equal
 then_second Less y h = cc
 then_second Equal y h = h
 then_second Greater y h = cc
-
-equal_of : (o : Ordering) → is_eq o ≡ true → o ≡ Equal
-equal_of Less h = absurd (false≢true h)
-equal_of Equal h = refl
-equal_of Greater h = absurd (false≢true h)
 
 same_column : (tables : List (List (List Value))) (x y : ColRef) (c d : List ℕ) → x.place ≡ y.place → x.column ≡ y.column → column_order tables x c d ≡ column_order tables y c d
 same_column tables x y c d p q =

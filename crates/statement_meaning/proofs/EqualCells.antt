@@ -12,11 +12,7 @@ use Rattle.row_values.specs.declared.values.Value.{Value}
 use Rattle.row_values.specs.declared.values.Value.TheVariants.{Int, Text}
 use Rattle.row_values.specs.declared.statement.Edge.{Edge}
 use Rattle.statement_meaning.specs.Conditions.{compares, joins}
-
-equal_of : (o : Ordering) → is_eq o ≡ true → o ≡ Equal
-equal_of Less h = absurd (false≢true h)
-equal_of Equal h = refl
-equal_of Greater h = absurd (false≢true h)
+use Rattle.statement_meaning.proofs.InOrder.{equal_of}
 
 -- both cells are there, and one value
 pub record AreEqual (left : Option Value) (right : Option Value) : Type 0 where

@@ -84,11 +84,6 @@ lower_full = full_order_from (λ (a : List ℕ) (b : List ℕ). slice_cmp nat_cm
 pub full_total : (tables : List (List (List Value))) (keys : List OrderKey) → IsTotalOrder (full_order tables keys)
 full_total tables keys = then_total (keys_total tables keys) numbers_total
 
-is_equal : Ordering → Bool
-is_equal Less = false
-is_equal Equal = true
-is_equal Greater = false
-
 last_equal : (o n : Ordering) → ordering_then o n ≡ Equal → n ≡ Equal
 last_equal Less n e = cc
 last_equal Equal n e = e

@@ -5,11 +5,12 @@ use Rattle.std.specs.Cmp.{IsEquivalence, IsTotalOrder}
 use Rattle.std.specs.Ordering.{is_lt, is_eq, ordering_reverse}
 use Rattle.std.specs.declared.cmp.Ordering.{Ordering}
 use Rattle.std.specs.declared.cmp.Ordering.TheVariants.{Less, Equal, Greater}
-use Rattle.std.proofs.lemmas.Bool.{false≢true}
+use Rattle.std.proofs.lemmas.Bool.{false≢true, not-true}
 use Rattle.std.proofs.lemmas.Cmp.{tied_itself, alike_right}
 use Rattle.std.proofs.lemmas.List.Elements.{All-nil, All-cons, All-head, All-tail, All-filter, filter_agree, filter_passes, All-weaker}
 use Rattle.statement_meaning.specs.Sorting.{put_in, in_order, Rises, times, heads, put_front, runs, classes}
 use Rattle.statement_meaning.proofs.Counting.{IsExact, times_rest, times-filter, times-filter_out}
+use Rattle.statement_meaning.proofs.InOrder.{equal_of, tie_of}
 use Rattle.statement_meaning.proofs.Rising.{filter_rises}
 
 -- An element that isn't in the class of its follower is in no class after it.
@@ -39,10 +40,6 @@ pub heads_rise : {X : Type 0} (same lt : X → X → Bool) (xs : List X) → Ris
 heads_rise same lt [] r = tt
 heads_rise same lt (x ∷ xs) r = (All-filter (λ y. not (same x y)) (λ y. lt y x ≡ false) (heads same xs) (heads_all same (λ y. lt y x ≡ false) xs r.0), filter_rises lt (λ y. not (same x y)) (heads same xs) (heads_rise same lt xs r.1))
 
-not_true : (b : Bool) → not b ≡ true → b ≡ false
-not_true true h = absurd (false≢true h)
-not_true false h = refl
-
 -- where each class stands together, the runs are the classes
 pub runs_are : {X : Type 0} (same : X → X → Bool) → IsEquivalence same → (xs : List X) → Together same xs → runs same xs ≡ classes same xs
 runs_are same e [] t = refl
@@ -67,7 +64,7 @@ runs_are {X = X} same e (x ∷ (y ∷ ys)) t = ap (put_front same x) (runs_are s
 
     by_test : (b : Bool) → same x y ≡ b → put_front same x (classes same (y ∷ ys)) ≡ classes same (x ∷ (y ∷ ys))
     by_test true q =
-        let a : All (λ z. same x z ≡ false) (filter (λ z. not (same y z)) (heads same ys)) = λ k d l. e.congr x y _ q ∙ not_true _ (filter_passes (λ z. not (same y z)) (heads same ys) k d l) in
+        let a : All (λ z. same x z ≡ false) (filter (λ z. not (same y z)) (heads same ys)) = λ k d l. e.congr x y _ q ∙ not-true _ (filter_passes (λ z. not (same y z)) (heads same ys) k d l) in
         left true q ∙ (ap₂ (λ (f : List X) (m : List (List X)). (x ∷ (y ∷ f)) ∷ m) (filter_agree (same y) (same x) (λ z. sym (e.congr x y z q)) ys)
         (sym (ap (map (λ h. filter (same h) (x ∷ (y ∷ ys)))) (kept a) ∙ unseen same x (y ∷ ys) _ (hidden a))) ∙ sym (right true q))
     by_test false q =
@@ -152,19 +149,6 @@ class_heads {X = X} same e c (x ∷ xs) = by_class (same c x) refl (class_heads 
     by_class false k more = stays k (heads same xs) ∙ more
 
 -- Lists that rise and have as many of each class: what goes by class is the same of both.
-
-equal_of : (o : Ordering) → is_eq o ≡ true → o ≡ Equal
-equal_of Less h = absurd (false≢true h)
-equal_of Equal h = refl
-equal_of Greater h = absurd (false≢true h)
-
-tie_of : {X : Type 0} (cmp : X → X → Ordering) → IsTotalOrder cmp → (x y : X) → is_lt (cmp x y) ≡ false → is_lt (cmp y x) ≡ false → cmp x y ≡ Equal
-tie_of cmp o x y h k = by_case (cmp x y) refl
-  where
-    by_case : (r : Ordering) → cmp x y ≡ r → cmp x y ≡ Equal
-    by_case Less e = absurd (false≢true (sym h ∙ ap is_lt e))
-    by_case Equal e = e
-    by_case Greater e = absurd (false≢true (sym k ∙ ap is_lt (o.antisymm y x ∙ ap ordering_reverse e)))
 
 -- one whose class has a member above y is above y
 class_above : {X : Type 0} (cmp : X → X → Ordering) → IsTotalOrder cmp → (same : X → X → Bool) → ((a b : X) → same a b ≡ is_eq (cmp a b)) → (x y : X) (n : ℕ) (zs : List X) → All (λ z. is_lt (cmp z y) ≡ false) zs → times same x zs ≡ suc n → is_lt (cmp x y) ≡ false

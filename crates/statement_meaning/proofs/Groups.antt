@@ -15,6 +15,7 @@ use Rattle.row_values.specs.declared.statement.ColRef.{ColRef}
 use Rattle.row_values.specs.declared.statement.Item.{Item}
 use Rattle.row_values.specs.declared.statement.OrderKey.{OrderKey}
 use Rattle.statement_meaning.specs.FullOrder.{is_earlier}
+use Rattle.statement_meaning.specs.Groups.{first_member, group_row}
 use Rattle.statement_meaning.specs.Meaning.{Shown, key_order, keys_order, is_before, is_lower, group_keys, is_same_group, shown_row, plain_rows, group_rows, rows_shown, shape_of}
 use Rattle.statement_meaning.specs.PartialCombinations.{is_same}
 use Rattle.statement_meaning.specs.Sorting.{in_order, Rises, times, heads, runs, classes}
@@ -23,7 +24,7 @@ use Rattle.statement_meaning.proofs.Counting.{exact_combinations, HaveSame, all_
 use Rattle.statement_meaning.proofs.FullOrders.{keys_total, keys_ranked, lower_full, earlier_full, one_sort}
 use Rattle.statement_meaning.proofs.Grouping.{is_first, times_heads, heads_all, heads_rise, runs_are, together_in_order, class_heads, by_class_risen}
 use Rattle.statement_meaning.proofs.JoinOrder.{rises_map}
-use Rattle.statement_meaning.proofs.InOrder.{in_order_same, times_in_order, all_in_order, rises_in_order, rises_from_sorted, risen_is_sorted}
+use Rattle.statement_meaning.proofs.InOrder.{equal_of, in_order_same, times_in_order, all_in_order, rises_in_order, rises_from_sorted, risen_is_sorted}
 
 pub same_group_equivalence : (tables : List (List (List Value))) (groups : List ColRef) → IsEquivalence (is_same_group tables groups)
 same_group_equivalence tables groups = eq_by_cmp_equiv (keys_total tables (group_keys groups))
@@ -58,11 +59,6 @@ group_by_keys tables groups order a c d = by_case (keys_order tables (group_keys
     no_tie Less y h = h
     no_tie Equal y h = refl
     no_tie Greater y h = h
-
-    equal_of : (o : Ordering) → is_eq o ≡ true → o ≡ Equal
-    equal_of Less h = absurd (false≢true h)
-    equal_of Equal h = refl
-    equal_of Greater h = absurd (false≢true h)
 
     by_case : (o : Ordering) → keys_order tables (group_keys groups) c d ≡ o → is_eq (keys_order tables (group_keys groups) c d) ≡ is_eq (ordering_then (keys_order tables order c d) (keys_order tables (group_keys groups) c d))
     by_case Less e = no_tie (keys_order tables order c d) (keys_order tables (group_keys groups) c d) (ap is_eq e)
@@ -116,14 +112,6 @@ groups_by_heads tables items groups order shown keyed cs ds firsts h k r =
         ∙ same_counts (is_same_group tables groups) c (heads (is_same_group tables groups) ds) firsts k)))
 
 -- Classes and runs as groups.
-
--- the first member of a list of combinations
-abbrev pub first_member : List (List ℕ) → List ℕ
-first_member members = slice_index_or members 0 []
-
--- what the items show of a group with these members
-abbrev pub group_row : List (List (List Value)) → List Item → List (List ℕ) → List Shown
-group_row tables items members = shown_row tables items members (first_member members)
 
 -- a head is the first member of its class
 heads_first : (tables : List (List (List Value))) (groups : List ColRef) (cs : List (List ℕ)) → All (λ h. first_member (filter (is_same_group tables groups h) cs) ≡ h) (heads (is_same_group tables groups) cs)

@@ -3,7 +3,7 @@
 use Rattle.std.proofs.Common.{ℕ, ◌≡◌, ◌<◌, ◌+◌, suc, zero, Bool, true, false, List, [], ◌∷◌, length, get_or, cond, ap, sym, ◌∙◌, refl, arith, subst}
 use Rattle.std.specs.Prelude.{All, IsPermutation, IsSortedBy}
 use Rattle.std.specs.Cmp.{IsStrictWeakOrder, IsTotalOrder}
-use Rattle.std.specs.Ordering.{is_lt, ordering_reverse}
+use Rattle.std.specs.Ordering.{is_lt, is_eq, ordering_reverse}
 use Rattle.std.specs.declared.cmp.Ordering.{Ordering}
 use Rattle.std.specs.declared.cmp.Ordering.TheVariants.{Less, Equal, Greater}
 use Rattle.std.proofs.lemmas.Bool.{false≢true}
@@ -12,6 +12,20 @@ use Rattle.std.proofs.lemmas.List.Sorted.{sorted_far, ranks_by}
 use Rattle.statement_meaning.specs.Sorting.{put_in, in_order, Rises, times}
 use Rattle.statement_meaning.proofs.Counting.{IsExact, HaveSame, times_all, times_head, times_rest, same_from_permutation, all_of_same}
 
+pub equal_of : (o : Ordering) → is_eq o ≡ true → o ≡ Equal
+equal_of Less h = absurd (false≢true h)
+equal_of Equal h = refl
+equal_of Greater h = absurd (false≢true h)
+
+-- two that neither is less than the other are equal
+pub tie_of : {X : Type 0} (cmp : X → X → Ordering) → IsTotalOrder cmp → (x y : X) → is_lt (cmp x y) ≡ false → is_lt (cmp y x) ≡ false → cmp x y ≡ Equal
+tie_of cmp o x y h k = by_case (cmp x y) refl
+  where
+    by_case : (r : Ordering) → cmp x y ≡ r → cmp x y ≡ Equal
+    by_case Less e = absurd (false≢true (sym h ∙ ap is_lt e))
+    by_case Equal e = e
+    by_case Greater e = absurd (false≢true (sym k ∙ ap is_lt (o.antisymm y x ∙ ap ordering_reverse e)))
+
 -- an order in which only equal elements tie
 pub record IsFullOrder {X : Type 0} (lt : X → X → Bool) : Type 0 where
   pub ranks : IsStrictWeakOrder lt
@@ -19,14 +33,7 @@ pub record IsFullOrder {X : Type 0} (lt : X → X → Bool) : Type 0 where
 
 -- by a comparison in which only equal elements are equal
 pub full_order_from : {X : Type 0} (cmp : X → X → Ordering) → IsTotalOrder cmp → ((a b : X) → cmp a b ≡ Equal → a ≡ b) → IsFullOrder (λ a b. is_lt (cmp a b))
-full_order_from {X = X} cmp o e = record { ranks = ranks_by o (λ (x : X). x); ties = λ a b h k. e a b (by_cases (cmp a b) (cmp b a) h k (o.antisymm a b)) }
-  where
-    by_cases : (x y : Ordering) → is_lt x ≡ false → is_lt y ≡ false → x ≡ ordering_reverse y → x ≡ Equal
-    by_cases Less y h k e = absurd (false≢true (sym h))
-    by_cases Equal y h k e = refl
-    by_cases Greater Less h k e = absurd (false≢true (sym k))
-    by_cases Greater Equal h k e = e
-    by_cases Greater Greater h k e = absurd (false≢true (sym h ∙ ap is_lt e))
+full_order_from {X = X} cmp o e = record { ranks = ranks_by o (λ (x : X). x); ties = λ a b h k. e a b (tie_of cmp o a b h k) }
 
 pub nothing_below_itself : {X : Type 0} (lt : X → X → Bool) → IsStrictWeakOrder lt → (x : X) → lt x x ≡ false
 nothing_below_itself lt o x = by_test (lt x x) refl

@@ -1,7 +1,7 @@
 -- The join of two lists that have each combination of their side once has each combination of both sides once.
 use Rattle.std.proofs.Common.{ℕ, ◌≡◌, ◌<◌, ◌+◌, ◌++◌, suc, zero, Bool, true, false, ◌&&◌, ◌||◌, ◌==◌, List, [], ◌∷◌, length, replicate, get_or, set, map, cond, ap, sym, ◌∙◌, refl, arith, subst, ◌⊎◌, inl, inr}
 use Rattle.std.specs.Prelude.{filter, flat_map, All, nat_eq}
-use Rattle.std.proofs.lemmas.Bool.{false≢true, cases_Bool, cases_eq, eqb-true, ne_eqb, eq-eqb, and_parts}
+use Rattle.std.proofs.lemmas.Bool.{false≢true, or_left, or_right, or_parts}
 use Rattle.std.proofs.lemmas.List.{ext_get_or, get_or-set_same, get_or-set_other, length-set}
 use Rattle.std.proofs.lemmas.List.Elements.{All-nil, All-cons, All-head, All-tail, All-append, All-filter, All-map, filter_passes}
 use Rattle.row_values.specs.declared.statement.Edge.{Edge}
@@ -24,7 +24,7 @@ and_true false = refl
 
 -- an edge whose ends are in both sets together: in the one, in the other, or between
 split_edge : (a b x y h h1 h2 : Bool) → (a ≡ true → x ≡ false) → (b ≡ true → y ≡ false) → (a ≡ true → b ≡ true → h1 ≡ h) → (x ≡ true → y ≡ true → h2 ≡ h) →
-    cond ((a || x) && (b || y)) h true ≡ ((cond (a && b) h1 true && cond (x && y) h2 true) && cond ((a && y) || (x && b)) h true)
+    cond ((a || x) && (b || y)) h true ≡ ((cond (a && b) h1 true && cond (x && y) h2 true) && cond ((a && y) || (b && x)) h true)
 split_edge true b true y h h1 h2 p q f g = absurd (false≢true (sym (p refl)))
 split_edge a true x true h h1 h2 p q f g = absurd (false≢true (sym (q refl)))
 split_edge true true false false h h1 h2 p q f g = rw (f refl refl) (sym (and_true (h && true) ∙ and_true h))
@@ -68,26 +68,15 @@ split_edges world left right apart c c1 c2 h1 h2 (edge ∷ es) =
     rw (one_more world ((a || x) && (b || y)) edge (filter (is_inside (either left right)) es) c,
         one_more world (a && b) edge (filter (is_inside left) es) c1,
         one_more world (x && y) edge (filter (is_inside right) es) c2,
-        one_more world ((a && y) || (x && b)) edge (filter (is_between left right) es) c,
+        one_more world ((a && y) || (b && x)) edge (filter (is_between left right) es) c,
         split_edge a b x y (edge_holds world edge c) (edge_holds world edge c1) (edge_holds world edge c2) (apart edge.left.place) (apart edge.right.place) (edge_agrees world left c1 c h1 edge) (edge_agrees world right c2 c h2 edge),
         split_edges world left right apart c c1 c2 h1 h2 es)
-    (six (cond (a && b) (edge_holds world edge c1) true) (cond (x && y) (edge_holds world edge c2) true) (cond ((a && y) || (x && b)) (edge_holds world edge c) true)
+    (six (cond (a && b) (edge_holds world edge c1) true) (cond (x && y) (edge_holds world edge c2) true) (cond ((a && y) || (b && x)) (edge_holds world edge c) true)
         (edges_hold world (filter (is_inside left) es) c1) (edges_hold world (filter (is_inside right) es) c2) (edges_hold world (filter (is_between left right) es) c))
 
 -- Fitting.
 
-or_first : (a b : Bool) → a ≡ true → (a || b) ≡ true
-or_first a b h = ap (λ (k : Bool). k || b) h
-
-or_second : (a b : Bool) → b ≡ true → (a || b) ≡ true
-or_second true b h = refl
-or_second false b h = h
-
-neither : (a b : Bool) → (a || b) ≡ false → (a ≡ false) × (b ≡ false)
-neither true b h = absurd (false≢true (sym h))
-neither false b h = (refl, h)
-
-swap_apart : (left right : ℕ → Bool) → AreApart left right → AreApart right left
+pub swap_apart : (left right : ℕ → Bool) → AreApart left right → AreApart right left
 swap_apart left right apart place r = by_test (left place) refl
   where
     by_test : (b : Bool) → left place ≡ b → left place ≡ false
@@ -104,13 +93,13 @@ parts : (world : World) (left right : ℕ → Bool) → AreApart left right → 
 parts world left right apart c f = record {
   first = record {
     long = length-restricted left c ∙ f.long;
-    within = λ place h. rw (restricted_in left c place h) (f.within place (or_first (left place) (right place) h));
+    within = λ place h. rw (restricted_in left c place h) (f.within place (or_left (left place) (right place) h));
     zeros = λ place h. restricted_out left c place h;
     met = met.0;
   };
   second = record {
     long = length-restricted right c ∙ f.long;
-    within = λ place h. rw (restricted_in right c place h) (f.within place (or_second (left place) (right place) h));
+    within = λ place h. rw (restricted_in right c place h) (f.within place (or_right (left place) (right place) h));
     zeros = λ place h. restricted_out right c place h;
     met = met.1;
   };
@@ -130,7 +119,7 @@ pub merged_fits : (world : World) (left right : ℕ → Bool) → AreApart left 
 merged_fits world left right apart c d f g h = record {
   long = length-merged left c d l ∙ f.long;
   within = λ place e. by_side place e (left place) refl;
-  zeros = λ place e. let no = neither (left place) (right place) e in merged_second left c d l place no.0 ∙ g.zeros place no.1;
+  zeros = λ place e. let no = or_parts (left place) (right place) e in merged_second left c d l place no.0 ∙ g.zeros place no.1;
   met = split_edges world left right apart (merged left c d) c d (λ place e. sym (merged_first left c d l place e)) (λ place e. sym (merged_second left c d l place (swap_apart left right apart place e))) world.edges
       ∙ rw (f.met, g.met, h) refl;
 }
@@ -273,3 +262,7 @@ passing_offered world left right c ds p o h = record {
   only = All-filter p (Fits world right) ds o.only;
   once = λ d g m. times-filter is_same exact_combinations p d (h d g m) ds ∙ o.once d g;
 }
+
+-- nothing, where no combination of the right side meets the edges between with this one
+pub none_offered : (world : World) (left right : ℕ → Bool) (c : List ℕ) → ((d : List ℕ) → Fits world right d → edges_hold world (edges_between world left right) (merged left c d) ≡ true → ⊥) → Offers world left right c []
+none_offered world left right c h = record { only = All-nil (Fits world right); once = λ d g m. absurd (h d g m) }

@@ -2,7 +2,7 @@
 -- order.
 use Rattle.std.proofs.Common.{ℕ, ◌≡◌, ◌<◌, ◌≤◌, ◌+◌, ◌++◌, suc, zero, nat_lt, Bool, true, false, ◌&&◌, ◌==◌, List, [], ◌∷◌, length, get_or, map, cond, ap, sym, ◌∙◌, refl, arith, subst, add-zero, zero-add, ◌⊎◌, inl, inr}
 use Rattle.std.specs.Prelude.{filter, flat_map, All, IsPermutation, IsSome, Option, nat_eq}
-use Rattle.std.proofs.lemmas.Bool.{false≢true, cases_lt, ltb-true, ltb-false, lt-ltb, le-ltb, eqb-true, ne_eqb}
+use Rattle.std.proofs.lemmas.Bool.{false≢true, and_parts, ltb-true, ltb-false, lt-ltb, le-ltb, eqb-true, ne_eqb}
 use Rattle.std.proofs.lemmas.List.{get_or_past}
 use Rattle.std.proofs.lemmas.List.Elements.{All-nil, All-cons, All-head, All-tail, All-filter, All-weaker, filter_passes}
 use Rattle.row_values.specs.Statements.{Statement, IsSoundQuery, IsEdge, IsColumn, kind_at}
@@ -49,10 +49,6 @@ all_inside world (edge ∷ es) a =
 abbrev IsGood : World → ℕ → ℕ → Type 0
 IsGood world place row = (row < world.size place) × (world.passes place row ≡ true)
 
-and_both : (a b : Bool) → (a && b) ≡ true → (a ≡ true) × (b ≡ true)
-and_both true b h = (refl, h)
-and_both false b h = absurd (false≢true h)
-
 good_box : (world : World) (n t : ℕ) (c : List ℕ) → length c ≡ n → ((i : ℕ) → i < n → IsGood world (t + i) (get_or c i 0)) → InBox (sizes_from world t n) c × (rows_pass world t c ≡ true)
 good_box world zero t [] l h = (tt, refl)
 good_box world zero t (row ∷ rows) l h = absurd (omega (arith, l))
@@ -67,7 +63,7 @@ box_good world zero t [] b p = (refl, λ i k. absurd (omega (arith, k)))
 box_good world zero t (row ∷ rows) b p = absurd b
 box_good world (suc n) t [] b p = absurd b
 box_good world (suc n) t (row ∷ rows) b p =
-    let passed = and_both (world.passes t row) (rows_pass world (suc t) rows) p in
+    let passed = and_parts (world.passes t row) (rows_pass world (suc t) rows) p in
     let more = box_good world n (suc t) rows b.1 passed.1 in
     (ap suc more.0, λ i k. at_place passed.0 more.1 i k)
   where
@@ -107,7 +103,7 @@ kept_once world sound = record {
   where
     fits : (c : List ℕ) → InBox (sizes_from world 0 world.wide) c → keeps world c ≡ true → Fits world (all_places world) c
     fits c box passed =
-        let both = and_both (rows_pass world 0 c) (edges_hold world world.edges c) passed in
+        let both = and_parts (rows_pass world 0 c) (edges_hold world world.edges c) passed in
         let good = box_good world world.wide 0 c box both.0 in
         record {
           long = good.0;

@@ -1,8 +1,9 @@
 -- Sets of places as numbers, the sum of 2 ^ t over their places t, are sets of places as tests.
-use Rattle.std.proofs.Common.{ℕ, ◌≡◌, ◌<◌, ◌≤◌, ◌+◌, ◌-◌, ◌*◌, ◌/◌, ◌%◌, ◌^◌, ◌==◌, ◌||◌, nat_lt, suc, zero, Bool, true, false, ap, sym, ◌∙◌, refl, arith, ◌⊎◌, inl, inr}
+use Rattle.std.proofs.Common.{ℕ, ◌≡◌, ◌<◌, ◌≤◌, ◌+◌, ◌-◌, ◌*◌, ◌/◌, ◌%◌, ◌^◌, ◌==◌, ◌||◌, min, nat_lt, suc, zero, Bool, true, false, ap, sym, ◌∙◌, refl, arith, ◌⊎◌, inl, inr}
 use Rattle.std.specs.Int.{bit_at}
-use Rattle.std.proofs.lemmas.Bool.{false≢true, cases_lt, cases_eq, eq-eqb, ne_eqb, lt-ltb, le-ltb}
-use Rattle.std.proofs.lemmas.Nat.Bits.{bit_at_lowest, bit_at-suc, bit_at_ones, bit_at-pow_same, bit_at-pow_other, bit_at-lt}
+use Rattle.std.specs.Prelude.{bit_and}
+use Rattle.std.proofs.lemmas.Bool.{false≢true, cases_lt, cases_eq, eqb-true, eq-eqb, ne_eqb, lt-ltb, le-ltb}
+use Rattle.std.proofs.lemmas.Nat.Bits.{bit_at_lowest, bit_at-suc, bit_at_ones, bit_at-pow_same, bit_at-pow_other, bit_at-lt, bit_at_and, bit_at-zero}
 use Rattle.std.proofs.Math.Nat.{div-eq_of_lt, pow-le-pow_right}
 use Rattle.statement_meaning.specs.PartialCombinations.{single, either, AreApart}
 
@@ -72,3 +73,22 @@ has_place_below n place = by_place (cases_lt place n)
         powers : (n : ℕ) → 0 < 2 ^ n
         powers zero = omega arith
         powers (suc n) = let less : 2 ^ n ≤ 2 ^ suc n = pow-le-pow_right (omega arith) (omega arith) in omega (arith, less, powers n)
+
+-- sets whose common bits are none have no common place
+pub disjoint_apart : (a b : ℕ) → bit_and a b ≡ 0 → AreApart (has_place a) (has_place b)
+disjoint_apart a b h t e = by_bit (bit_at b t) (bit_at-lt b t) refl
+  where
+    least : min (bit_at a t) (bit_at b t) ≡ 0
+    least = sym (bit_at_and a b t) ∙ (ap (λ (n : ℕ). bit_at n t) h ∙ bit_at-zero t)
+
+    by_bit : (y : ℕ) → y < 2 → bit_at b t ≡ y → has_place b t ≡ false
+    by_bit zero i k = ap (λ (n : ℕ). n == 1) k
+    by_bit (suc zero) i k = absurd (omega (arith, least, k, eqb-true (bit_at a t) 1 e))
+    by_bit (suc (suc y)) i k = absurd (omega (arith, i))
+
+-- a place that isn't in a set, and the set with it
+pub place_apart : (a t : ℕ) → has_place a t ≡ false → AreApart (has_place a) (has_place (2 ^ t))
+place_apart a t h place e = has_place_single t place ∙ ne_eqb t place (λ q. false≢true (sym h ∙ (ap (has_place a) q ∙ e)))
+
+pub has_place_more : (a t : ℕ) → has_place a t ≡ false → (place : ℕ) → has_place (a + 2 ^ t) place ≡ either (has_place a) (single t) place
+has_place_more a t h place = has_place_sum a (2 ^ t) (place_apart a t h) place ∙ ap (λ (b : Bool). has_place a place || b) (has_place_single t place)

@@ -2,6 +2,7 @@ pub mod Combinations
 pub mod Conditions
 pub mod Examples
 pub mod FullOrder
+pub mod Groups
 pub mod Meaning
 pub mod PartialCombinations
 pub mod Sorting

@@ -36,7 +36,7 @@ abbrev pub is_inside : (ℕ → Bool) → Edge → Bool
 is_inside places edge = places edge.left.place && places edge.right.place
 
 abbrev pub is_between : (ℕ → Bool) → (ℕ → Bool) → Edge → Bool
-is_between left right edge = (left edge.left.place && right edge.right.place) || (right edge.left.place && left edge.right.place)
+is_between left right edge = (left edge.left.place && right edge.right.place) || (left edge.right.place && right edge.left.place)
 
 abbrev pub edges_inside : World → (ℕ → Bool) → List Edge
 edges_inside world places = filter (is_inside places) world.edges
