@@ -1,11 +1,10 @@
 -- What a group shows doesn't depend on the order of its members, nor on which of them is taken first.
-use Rattle.std.proofs.Common.{ℕ, ◌≡◌, ◌<◌, ◌≤◌, ◌+◌, ◌++◌, suc, zero, ℤ, pos, ◌+ℤ◌, Bool, true, false, ◌&&◌, ◌||◌, ◌==◌, List, [], ◌∷◌, length, get_or, map, cond, ap, ap₂, sym, ◌∙◌, refl, arith, subst}
-use Rattle.std.specs.Prelude.{All, filter, IsTrue, Option, Some, None, slice_get}
-use Rattle.std.specs.Cmp.{IsTotalOrder}
-use Rattle.std.specs.Ordering.{is_lt, is_eq, ordering_then, ordering_reverse}
+use Rattle.std.proofs.Common.{ℕ, ◌≡◌, ◌≤◌, ◌+◌, ◌++◌, suc, ℤ, pos, ◌+ℤ◌, Bool, true, false, ◌&&◌, ◌||◌, ◌==◌, List, [], ◌∷◌, length, get_or, map, cond, ap, ap₂, sym, ◌∙◌, refl, arith, subst}
+use Rattle.std.specs.Prelude.{All, IsTrue, Option, Some, None, slice_get}
+use Rattle.std.specs.Ordering.{is_lt, ordering_then}
 use Rattle.std.specs.declared.cmp.Ordering.{Ordering}
 use Rattle.std.specs.declared.cmp.Ordering.TheVariants.{Less, Equal, Greater}
-use Rattle.std.proofs.lemmas.Bool.{false≢true, eqb-true, or_cases, and_parts}
+use Rattle.std.proofs.lemmas.Bool.{false≢true, eqb-true, and_parts}
 use Rattle.std.proofs.lemmas.Int.{ints}
 use Rattle.std.proofs.lemmas.List.{length_push}
 use Rattle.std.proofs.lemmas.List.Elements.{All-head, All-tail}
@@ -16,14 +15,13 @@ use Rattle.row_values.specs.declared.values.Value.TheVariants.{Int, Text}
 use Rattle.row_values.specs.declared.statement.ColRef.{ColRef}
 use Rattle.row_values.specs.declared.statement.Item.{Item}
 use Rattle.row_values.specs.declared.statement.Item.TheVariants.{Column, CountAll, Sum, Min, Max}
-use Rattle.row_values.specs.declared.statement.OrderKey.{OrderKey}
 use Rattle.statement_meaning.specs.Combinations.{row_at}
-use Rattle.statement_meaning.specs.Meaning.{Shown, Cell, Total, value_order, cell_order, cell_of, column_order, key_order, keys_order, is_lower, group_keys, is_same_group, number_in, sum_of, shown_cell, shown_item, shown_row}
+use Rattle.statement_meaning.specs.Meaning.{Shown, Total, value_order, cell_order, cell_of, column_order, keys_order, is_lower, group_keys, is_same_group, number_in, sum_of, shown_cell, shown_item, shown_row}
 use Rattle.statement_meaning.specs.PartialCombinations.{is_same}
 use Rattle.statement_meaning.specs.Sorting.{put_in, in_order, least_of, times}
 use Rattle.statement_meaning.proofs.Counting.{exact_combinations, HaveSame}
 use Rattle.statement_meaning.proofs.FullOrders.{cell_order_total, lower_full}
-use Rattle.statement_meaning.proofs.InOrder.{equal_of, IsFullOrder, full_order_from, in_order_same, nothing_below_itself}
+use Rattle.statement_meaning.proofs.InOrder.{equal_of, IsFullOrder, full_order_from, in_order_same}
 
 -- The least of several.
 

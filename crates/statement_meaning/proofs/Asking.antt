@@ -1,5 +1,5 @@
 -- What one edge asks of the combinations that meet the edges between two sides, and one predicate of a row that passes.
-use Rattle.std.proofs.Common.{ℕ, ◌≡◌, ◌<◌, suc, zero, Bool, true, false, ◌&&◌, ◌||◌, ◌==◌, List, [], ◌∷◌, length, get_or, set, cond, ap, sym, ◌∙◌, refl}
+use Rattle.std.proofs.Common.{ℕ, ◌≡◌, ◌<◌, suc, zero, Bool, true, false, ◌&&◌, ◌==◌, List, [], ◌∷◌, length, get_or, set, cond, ap, sym, ◌∙◌, refl}
 use Rattle.std.specs.Prelude.{filter, slice_get, Some}
 use Rattle.std.proofs.lemmas.Bool.{false≢true, eq-eqb, and_parts, or_right}
 use Rattle.std.proofs.lemmas.List.{get_or-set_same, get_or-set_other}
@@ -31,7 +31,7 @@ edge_asks world left right apart c d f g m number edge at l r =
     let same : length c ≡ length d = f.long ∙ sym g.long in
     let met : edge_holds world edge (merged left c d) ≡ true = edge_of_filter world (is_between left right) world.edges (merged left c d) m number edge at (rw (l, r) refl) in
     sym (ap (λ (row : ℕ). world.agree edge row (get_or (merged left c d) edge.right.place 0)) (merged_first left c d same edge.left.place l)
-         ∙ ap (λ (row : ℕ). world.agree edge (get_or c edge.left.place 0) row) (merged_second left c d same edge.right.place (swap_apart left right apart edge.right.place r))) ∙ met
+    ∙ ap (λ (row : ℕ). world.agree edge (get_or c edge.left.place 0) row) (merged_second left c d same edge.right.place (swap_apart left right apart edge.right.place r))) ∙ met
 
 -- and its left place on the right side
 pub edge_asks_back : (world : World) (left right : ℕ → Bool) → AreApart left right → (c d : List ℕ) → Fits world left c → Fits world right d → edges_hold world (edges_between world left right) (merged left c d) ≡ true → (number : ℕ) (edge : Edge) → slice_get world.edges number ≡ Some edge → right edge.left.place ≡ true → left edge.right.place ≡ true → world.agree edge (get_or d edge.left.place 0) (get_or c edge.right.place 0) ≡ true
@@ -39,7 +39,7 @@ edge_asks_back world left right apart c d f g m number edge at r l =
     let same : length c ≡ length d = f.long ∙ sym g.long in
     let met : edge_holds world edge (merged left c d) ≡ true = edge_of_filter world (is_between left right) world.edges (merged left c d) m number edge at (rw (r, l) (or_right (left edge.left.place && right edge.right.place) true refl)) in
     sym (ap (λ (row : ℕ). world.agree edge row (get_or (merged left c d) edge.right.place 0)) (merged_second left c d same edge.left.place (swap_apart left right apart edge.left.place r))
-         ∙ ap (λ (row : ℕ). world.agree edge (get_or d edge.left.place 0) row) (merged_first left c d same edge.right.place l)) ∙ met
+    ∙ ap (λ (row : ℕ). world.agree edge (get_or d edge.left.place 0) row) (merged_first left c d same edge.right.place l)) ∙ met
 
 -- the same of a combination and a row of the place that enters
 pub row_asks : (world : World) (left : ℕ → Bool) (place : ℕ) → left place ≡ false → place < world.wide → (c : List ℕ) → Fits world left c → (row : ℕ) → edges_hold world (edges_between world left (single place)) (set c place row) ≡ true → (number : ℕ) (edge : Edge) → slice_get world.edges number ≡ Some edge → left edge.left.place ≡ true → edge.right.place ≡ place → world.agree edge (get_or c edge.left.place 0) row ≡ true

@@ -1,16 +1,16 @@
 -- One place enters a join: the case of one place of the law of joins.
-use Rattle.std.proofs.Common.{ℕ, ◌≡◌, ◌≢◌, ◌<◌, ◌++◌, suc, zero, Bool, true, false, ◌&&◌, ◌||◌, ◌==◌, List, [], ◌∷◌, length, get_or, set, map, cond, ap, sym, ◌∙◌, refl, arith, subst, ◌⊎◌, inl, inr}
-use Rattle.std.specs.Prelude.{filter, flat_map, All, nat_eq, slice_get, Option, Some}
+use Rattle.std.proofs.Common.{ℕ, ◌≡◌, ◌<◌, Bool, true, false, ◌&&◌, ◌==◌, List, [], ◌∷◌, get_or, set, map, cond, ap, sym, ◌∙◌, refl, subst}
+use Rattle.std.specs.Prelude.{filter, All, nat_eq}
 use Rattle.std.proofs.lemmas.Bool.{false≢true, eqb-true, eq-eqb, ne_eqb}
 use Rattle.std.proofs.lemmas.List.{ext_get_or, get_or-set_same, get_or-set_other, length-set}
 use Rattle.std.proofs.lemmas.List.Elements.{All-nil, All-cons, All-head, All-tail, All-filter, filter_passes}
 use Rattle.row_values.specs.declared.statement.Edge.{Edge}
-use Rattle.statement_meaning.specs.Combinations.{World, row_numbers, edge_holds, edges_hold}
-use Rattle.statement_meaning.specs.PartialCombinations.{single, either, AreApart, HasSoundEdges, is_inside, is_between, edges_inside, edges_between, Fits, is_same, Once, merged, joined, Offers, placed, joined_rows, RowsOnce, OffersRows}
+use Rattle.statement_meaning.specs.Combinations.{World, row_numbers, edges_hold}
+use Rattle.statement_meaning.specs.PartialCombinations.{single, either, AreApart, HasSoundEdges, is_inside, edges_between, Fits, is_same, Once, merged, joined, Offers, placed, joined_rows, RowsOnce, OffersRows}
 use Rattle.statement_meaning.specs.Sorting.{times}
-use Rattle.statement_meaning.proofs.Counting.{IsExact, exact_combinations, exact_numbers, HaveSame, all_of_same, times-filter, times_row_numbers}
+use Rattle.statement_meaning.proofs.Counting.{exact_combinations, exact_numbers, HaveSame, all_of_same, times-filter, times_row_numbers}
 use Rattle.statement_meaning.proofs.Joining.{joined_once}
-use Rattle.statement_meaning.proofs.Merging.{length-merged, merged_first, merged_second, merged_is, length-placed, placed_there, placed_elsewhere}
+use Rattle.statement_meaning.proofs.Merging.{merged_is, length-placed, placed_there, placed_elsewhere}
 use Rattle.statement_meaning.proofs.Rising.{below}
 
 -- a place that isn't in the set is apart from it

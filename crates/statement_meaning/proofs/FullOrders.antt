@@ -1,12 +1,12 @@
 -- The orders of combinations: by row numbers, by keys, and by both. A stable sort by keys of a list in the order of
 -- row numbers is one sort by both.
-use Rattle.std.proofs.Common.{ℕ, ◌≡◌, Bool, true, false, List, [], ◌∷◌, cond, ap, sym, ◌∙◌, refl}
-use Rattle.std.specs.Prelude.{All, IsPermutation, IsSortedBy, Option, Some, None, slice_index_or}
+use Rattle.std.proofs.Common.{ℕ, ◌≡◌, Bool, true, false, List, [], ◌∷◌, cond, sym, ◌∙◌, refl}
+use Rattle.std.specs.Prelude.{All, IsPermutation, IsSortedBy}
 use Rattle.std.specs.Cmp.{IsTotalOrder, IsStrictWeakOrder, nat_cmp_total, int_cmp_total, back_total}
 use Rattle.std.specs.Cmp.Lexicographic.{options_total, slice_cmp, lists_total}
 use Rattle.std.specs.declared.cmp.Ordering.{Ordering}
 use Rattle.std.specs.declared.cmp.Ordering.TheVariants.{Less, Equal, Greater}
-use Rattle.std.specs.Ordering.{is_lt, nat_cmp, int_cmp, ordering_then, ordering_reverse}
+use Rattle.std.specs.Ordering.{is_lt, nat_cmp, ordering_then, ordering_reverse}
 use Rattle.std.proofs.lemmas.Bool.{false≢true}
 use Rattle.std.proofs.lemmas.Cmp.{then_total, on_total}
 use Rattle.std.proofs.lemmas.List.Elements.{All-nil, All-cons, All-head, All-tail}
@@ -19,7 +19,7 @@ use Rattle.statement_meaning.specs.FullOrder.{full_order, is_earlier}
 use Rattle.statement_meaning.specs.Meaning.{value_order, cell_order, cell_of, column_order, key_order, keys_order, is_before, is_lower}
 use Rattle.statement_meaning.specs.PartialCombinations.{is_same}
 use Rattle.statement_meaning.specs.Sorting.{put_in, in_order, Rises}
-use Rattle.statement_meaning.proofs.Counting.{exact_combinations, HaveSame}
+use Rattle.statement_meaning.proofs.Counting.{exact_combinations}
 use Rattle.statement_meaning.proofs.InOrder.{IsFullOrder, full_order_from, all_put, all_in_order, rises_in_order, risen_is_sorted, times_in_order, sorted_is}
 
 -- the value order is total

@@ -1,5 +1,5 @@
 -- Classes of a list: in a list where each class stands together the runs are the classes, and which elements are heads.
-use Rattle.std.proofs.Common.{ℕ, ◌≡◌, ◌<◌, ◌≤◌, ◌+◌, suc, zero, min, Bool, true, false, not, List, [], ◌∷◌, get_or, map, cond, ap, ap₂, sym, ◌∙◌, refl, arith, subst}
+use Rattle.std.proofs.Common.{ℕ, ◌≡◌, suc, min, Bool, true, false, not, List, [], ◌∷◌, map, cond, ap, ap₂, sym, ◌∙◌, refl, arith}
 use Rattle.std.specs.Prelude.{All, filter}
 use Rattle.std.specs.Cmp.{IsEquivalence, IsTotalOrder}
 use Rattle.std.specs.Ordering.{is_lt, is_eq, ordering_reverse}
@@ -7,8 +7,8 @@ use Rattle.std.specs.declared.cmp.Ordering.{Ordering}
 use Rattle.std.specs.declared.cmp.Ordering.TheVariants.{Less, Equal, Greater}
 use Rattle.std.proofs.lemmas.Bool.{false≢true, not-true}
 use Rattle.std.proofs.lemmas.Cmp.{tied_itself, alike_right}
-use Rattle.std.proofs.lemmas.List.Elements.{All-nil, All-cons, All-head, All-tail, All-filter, filter_agree, filter_passes, All-weaker}
-use Rattle.statement_meaning.specs.Sorting.{put_in, in_order, Rises, times, heads, put_front, runs, classes}
+use Rattle.std.proofs.lemmas.List.Elements.{All-cons, All-head, All-tail, All-filter, filter_agree, filter_passes, All-weaker}
+use Rattle.statement_meaning.specs.Sorting.{Rises, times, heads, put_front, runs, classes}
 use Rattle.statement_meaning.proofs.Counting.{IsExact, times_rest, times-filter, times-filter_out}
 use Rattle.statement_meaning.proofs.InOrder.{equal_of, tie_of}
 use Rattle.statement_meaning.proofs.Rising.{filter_rises}
@@ -95,9 +95,10 @@ less_of cmp o x y n h = by_case (cmp x y) refl
 pub together_in_order : {X : Type 0} (cmp : X → X → Ordering) → IsTotalOrder cmp → (same : X → X → Bool) → ((a b : X) → same a b ≡ is_eq (cmp a b)) → (xs : List X) → Rises (λ a b. is_lt (cmp a b)) xs → Together same xs
 together_in_order cmp o same s [] r = tt
 together_in_order cmp o same s (x ∷ []) r = tt
-together_in_order cmp o same s (x ∷ (y ∷ ys)) r =
-    ((λ n. All-cons (λ z. same x z ≡ false) y ys n (All-weaker (λ z. is_lt (cmp z y) ≡ false) (λ z. same x z ≡ false) (λ z h. s x z ∙ later_apart cmp o x y z (less_of cmp o x y (sym (s x y) ∙ n) (All-head (λ z. is_lt (cmp z x) ≡ false) y ys r.0)) h) ys r.1.0)),
-     together_in_order cmp o same s (y ∷ ys) r.1)
+together_in_order cmp o same s (x ∷ (y ∷ ys)) r = (
+  (λ n. All-cons (λ z. same x z ≡ false) y ys n (All-weaker (λ z. is_lt (cmp z y) ≡ false) (λ z. same x z ≡ false) (λ z h. s x z ∙ later_apart cmp o x y z (less_of cmp o x y (sym (s x y) ∙ n) (All-head (λ z. is_lt (cmp z x) ≡ false) y ys r.0)) h) ys r.1.0)),
+  together_in_order cmp o same s (y ∷ ys) r.1,
+)
 
 -- Which elements are heads.
 

@@ -1,11 +1,10 @@
 -- The rows of groups, from a list in any order: by heads of the classes, and by runs of a list in order of the keys.
-use Rattle.std.proofs.Common.{ℕ, ◌≡◌, ◌<◌, ◌≤◌, ◌++◌, suc, zero, min, Bool, true, false, ◌&&◌, List, [], ◌∷◌, length, get_or, map, cond, ap, ap₂, sym, ◌∙◌, refl, arith, subst}
-use Rattle.std.specs.Prelude.{All, filter, IsTrue, IsPermutation, IsSortedBy, slice_index_or}
+use Rattle.std.proofs.Common.{ℕ, ◌≡◌, ◌<◌, ◌≤◌, ◌++◌, suc, min, Bool, true, false, List, [], ◌∷◌, length, map, cond, ap, ap₂, sym, ◌∙◌, refl, arith, subst}
+use Rattle.std.specs.Prelude.{All, filter, IsTrue, IsPermutation}
 use Rattle.std.specs.Cmp.{IsEquivalence}
-use Rattle.std.specs.Ordering.{is_lt, is_eq, ordering_then}
+use Rattle.std.specs.Ordering.{is_eq, ordering_then}
 use Rattle.std.specs.declared.cmp.Ordering.{Ordering}
 use Rattle.std.specs.declared.cmp.Ordering.TheVariants.{Less, Equal, Greater}
-use Rattle.std.proofs.lemmas.Bool.{false≢true}
 use Rattle.std.proofs.lemmas.Cmp.{eq_by_cmp_equiv}
 use Rattle.std.proofs.lemmas.List.Sorted.{IsPermutation-map, All-permutation}
 use Rattle.std.proofs.lemmas.List.Elements.{All-nil, All-cons, All-head, All-tail, All-weaker, filter_agree}
@@ -24,7 +23,7 @@ use Rattle.statement_meaning.proofs.Counting.{exact_combinations, HaveSame, all_
 use Rattle.statement_meaning.proofs.FullOrders.{keys_total, keys_ranked, lower_full, earlier_full, one_sort}
 use Rattle.statement_meaning.proofs.Grouping.{is_first, times_heads, heads_all, heads_rise, runs_are, together_in_order, class_heads, by_class_risen}
 use Rattle.statement_meaning.proofs.JoinOrder.{rises_map}
-use Rattle.statement_meaning.proofs.InOrder.{equal_of, in_order_same, times_in_order, all_in_order, rises_in_order, rises_from_sorted, risen_is_sorted}
+use Rattle.statement_meaning.proofs.InOrder.{equal_of, in_order_same, times_in_order, all_in_order, rises_in_order, risen_is_sorted}
 
 pub same_group_equivalence : (tables : List (List (List Value))) (groups : List ColRef) → IsEquivalence (is_same_group tables groups)
 same_group_equivalence tables groups = eq_by_cmp_equiv (keys_total tables (group_keys groups))

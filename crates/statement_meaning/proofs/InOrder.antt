@@ -1,6 +1,6 @@
 -- Lists in order: a sort gives a list that rises with the same elements, and where no two different elements tie there
 -- is one such list.
-use Rattle.std.proofs.Common.{ℕ, ◌≡◌, ◌<◌, ◌+◌, suc, zero, Bool, true, false, List, [], ◌∷◌, length, get_or, cond, ap, sym, ◌∙◌, refl, arith, subst}
+use Rattle.std.proofs.Common.{ℕ, ◌≡◌, ◌+◌, suc, zero, Bool, true, false, List, [], ◌∷◌, get_or, cond, ap, sym, ◌∙◌, refl, arith, subst}
 use Rattle.std.specs.Prelude.{All, IsPermutation, IsSortedBy}
 use Rattle.std.specs.Cmp.{IsStrictWeakOrder, IsTotalOrder}
 use Rattle.std.specs.Ordering.{is_lt, is_eq, ordering_reverse}
@@ -10,7 +10,7 @@ use Rattle.std.proofs.lemmas.Bool.{false≢true}
 use Rattle.std.proofs.lemmas.List.Elements.{All-nil, All-cons, All-head, All-tail}
 use Rattle.std.proofs.lemmas.List.Sorted.{sorted_far, ranks_by}
 use Rattle.statement_meaning.specs.Sorting.{put_in, in_order, Rises, times}
-use Rattle.statement_meaning.proofs.Counting.{IsExact, HaveSame, times_all, times_head, times_rest, same_from_permutation, all_of_same}
+use Rattle.statement_meaning.proofs.Counting.{IsExact, HaveSame, times_all, times_head, times_rest, same_from_permutation}
 
 pub equal_of : (o : Ordering) → is_eq o ≡ true → o ≡ Equal
 equal_of Less h = absurd (false≢true h)

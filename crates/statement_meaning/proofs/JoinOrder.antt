@@ -1,5 +1,5 @@
 -- A join keeps the order of its left side, where the order reads only places of the left side.
-use Rattle.std.proofs.Common.{ℕ, ◌≡◌, ◌<◌, ◌++◌, Bool, true, false, ◌==◌, List, [], ◌∷◌, length, get_or, set, map, cond, ap, sym, ◌∙◌, refl, subst}
+use Rattle.std.proofs.Common.{ℕ, ◌≡◌, ◌<◌, ◌++◌, Bool, true, false, List, [], ◌∷◌, get_or, set, map, cond, ap, sym, ◌∙◌, refl}
 use Rattle.std.specs.Prelude.{All, filter, flat_map, Option, slice_get}
 use Rattle.std.specs.Cmp.{IsStrictWeakOrder}
 use Rattle.std.specs.Ordering.{is_lt, ordering_then}
@@ -7,7 +7,7 @@ use Rattle.std.specs.declared.cmp.Ordering.{Ordering}
 use Rattle.std.specs.declared.cmp.Ordering.TheVariants.{Less, Equal, Greater}
 use Rattle.std.proofs.lemmas.Bool.{false≢true}
 use Rattle.std.proofs.lemmas.List.{get_or-set_other}
-use Rattle.std.proofs.lemmas.List.Elements.{All-nil, All-cons, All-head, All-tail, All-append, All-map, All-filter, All-weaker}
+use Rattle.std.proofs.lemmas.List.Elements.{All-nil, All-head, All-tail, All-append, All-map, All-filter, All-weaker}
 use Rattle.row_values.specs.declared.values.Value.{Value}
 use Rattle.row_values.specs.declared.statement.OrderKey.{OrderKey}
 use Rattle.row_values.specs.declared.statement.ColRef.{ColRef}

@@ -1,15 +1,15 @@
 -- The join of two lists that have each combination of their side once has each combination of both sides once.
-use Rattle.std.proofs.Common.{ℕ, ◌≡◌, ◌<◌, ◌+◌, ◌++◌, suc, zero, Bool, true, false, ◌&&◌, ◌||◌, ◌==◌, List, [], ◌∷◌, length, replicate, get_or, set, map, cond, ap, sym, ◌∙◌, refl, arith, subst, ◌⊎◌, inl, inr}
-use Rattle.std.specs.Prelude.{filter, flat_map, All, nat_eq}
+use Rattle.std.proofs.Common.{ℕ, ◌≡◌, ◌<◌, ◌+◌, suc, Bool, true, false, ◌&&◌, ◌||◌, List, [], ◌∷◌, length, get_or, map, cond, ap, sym, ◌∙◌, refl, arith}
+use Rattle.std.specs.Prelude.{filter, All}
 use Rattle.std.proofs.lemmas.Bool.{false≢true, or_left, or_right, or_parts}
-use Rattle.std.proofs.lemmas.List.{ext_get_or, get_or-set_same, get_or-set_other, length-set}
-use Rattle.std.proofs.lemmas.List.Elements.{All-nil, All-cons, All-head, All-tail, All-append, All-filter, All-map, filter_passes}
+use Rattle.std.proofs.lemmas.List.{ext_get_or}
+use Rattle.std.proofs.lemmas.List.Elements.{All-nil, All-cons, All-head, All-tail, All-append, All-filter}
 use Rattle.row_values.specs.declared.statement.Edge.{Edge}
 use Rattle.statement_meaning.specs.Combinations.{World, edge_holds, edges_hold}
-use Rattle.statement_meaning.specs.PartialCombinations.{single, either, AreApart, AreThere, is_inside, is_between, edges_inside, edges_between, Fits, is_same, Once, merged, joined, Offers}
+use Rattle.statement_meaning.specs.PartialCombinations.{either, AreApart, is_inside, is_between, edges_inside, edges_between, Fits, is_same, Once, merged, joined, Offers}
 use Rattle.statement_meaning.specs.Sorting.{times}
 use Rattle.statement_meaning.proofs.Counting.{exact_combinations, times-append, times-filter}
-use Rattle.statement_meaning.proofs.Merging.{length-merged, merged_at, merged_first, merged_second, restricted, length-restricted, restricted_at, restricted_in, restricted_out}
+use Rattle.statement_meaning.proofs.Merging.{length-merged, merged_first, merged_second, restricted, length-restricted, restricted_in, restricted_out}
 
 -- Edges.
 
@@ -65,14 +65,16 @@ split_edges world left right apart c c1 c2 h1 h2 (edge ∷ es) =
     let b = left edge.right.place in
     let x = right edge.left.place in
     let y = right edge.right.place in
-    rw (one_more world ((a || x) && (b || y)) edge (filter (is_inside (either left right)) es) c,
-        one_more world (a && b) edge (filter (is_inside left) es) c1,
-        one_more world (x && y) edge (filter (is_inside right) es) c2,
-        one_more world ((a && y) || (b && x)) edge (filter (is_between left right) es) c,
-        split_edge a b x y (edge_holds world edge c) (edge_holds world edge c1) (edge_holds world edge c2) (apart edge.left.place) (apart edge.right.place) (edge_agrees world left c1 c h1 edge) (edge_agrees world right c2 c h2 edge),
-        split_edges world left right apart c c1 c2 h1 h2 es)
+    rw (
+      one_more world ((a || x) && (b || y)) edge (filter (is_inside (either left right)) es) c,
+      one_more world (a && b) edge (filter (is_inside left) es) c1,
+      one_more world (x && y) edge (filter (is_inside right) es) c2,
+      one_more world ((a && y) || (b && x)) edge (filter (is_between left right) es) c,
+      split_edge a b x y (edge_holds world edge c) (edge_holds world edge c1) (edge_holds world edge c2) (apart edge.left.place) (apart edge.right.place) (edge_agrees world left c1 c h1 edge) (edge_agrees world right c2 c h2 edge),
+      split_edges world left right apart c c1 c2 h1 h2 es,
+    )
     (six (cond (a && b) (edge_holds world edge c1) true) (cond (x && y) (edge_holds world edge c2) true) (cond ((a && y) || (b && x)) (edge_holds world edge c) true)
-        (edges_hold world (filter (is_inside left) es) c1) (edges_hold world (filter (is_inside right) es) c2) (edges_hold world (filter (is_between left right) es) c))
+    (edges_hold world (filter (is_inside left) es) c1) (edges_hold world (filter (is_inside right) es) c2) (edges_hold world (filter (is_between left right) es) c))
 
 -- Fitting.
 

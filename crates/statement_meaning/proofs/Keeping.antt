@@ -1,23 +1,22 @@
 -- The kept combinations are those over all places, each once; and lists that have each once are the same but for their
 -- order.
-use Rattle.std.proofs.Common.{ℕ, ◌≡◌, ◌<◌, ◌≤◌, ◌+◌, ◌++◌, suc, zero, nat_lt, Bool, true, false, ◌&&◌, ◌==◌, List, [], ◌∷◌, length, get_or, map, cond, ap, sym, ◌∙◌, refl, arith, subst, add-zero, zero-add, ◌⊎◌, inl, inr}
-use Rattle.std.specs.Prelude.{filter, flat_map, All, IsPermutation, IsSome, Option, nat_eq}
-use Rattle.std.proofs.lemmas.Bool.{false≢true, and_parts, ltb-true, ltb-false, lt-ltb, le-ltb, eqb-true, ne_eqb}
+use Rattle.std.proofs.Common.{ℕ, ◌≡◌, ◌<◌, ◌+◌, suc, zero, Bool, true, false, ◌&&◌, ◌==◌, List, [], ◌∷◌, length, get_or, map, cond, ap, sym, ◌∙◌, refl, arith, subst, add-zero, zero-add}
+use Rattle.std.specs.Prelude.{filter, flat_map, All, IsPermutation, IsSome, nat_eq}
+use Rattle.std.proofs.lemmas.Bool.{false≢true, and_parts, ltb-true, ltb-false, lt-ltb, ne_eqb}
 use Rattle.std.proofs.lemmas.List.{get_or_past}
-use Rattle.std.proofs.lemmas.List.Elements.{All-nil, All-cons, All-head, All-tail, All-filter, All-weaker, filter_passes}
+use Rattle.std.proofs.lemmas.List.Elements.{All-head, All-tail, All-filter, All-weaker, filter_passes}
 use Rattle.row_values.specs.Statements.{Statement, IsSoundQuery, IsEdge, IsColumn, kind_at}
-use Rattle.row_values.specs.declared.values.Kind.{Kind}
 use Rattle.row_values.specs.declared.values.Value.{Value}
 use Rattle.row_values.specs.declared.statement.ColRef.{ColRef}
 use Rattle.row_values.specs.declared.statement.Edge.{Edge}
 use Rattle.row_values.specs.declared.statement.Place.{Place}
 use Rattle.statement_meaning.specs.Combinations.{World, row_numbers, combinations, sizes_from, rows_pass, edges_hold, keeps, kept, world_of}
 use Rattle.statement_meaning.specs.Meaning.{is_lower}
-use Rattle.statement_meaning.specs.PartialCombinations.{all_places, HasSoundEdges, is_inside, edges_inside, Fits, is_same, Once}
+use Rattle.statement_meaning.specs.PartialCombinations.{all_places, HasSoundEdges, is_inside, Fits, is_same, Once}
 use Rattle.statement_meaning.specs.Sorting.{in_order, times}
 use Rattle.statement_meaning.proofs.Counting.{exact_combinations, HaveSame, times-append, times-filter, times_row_numbers, times_all, all_of_same, same_from_permutation}
 use Rattle.statement_meaning.proofs.FullOrders.{lower_full}
-use Rattle.statement_meaning.proofs.InOrder.{IsFullOrder, in_order_same, times_in_order}
+use Rattle.statement_meaning.proofs.InOrder.{in_order_same, times_in_order}
 use Rattle.statement_meaning.proofs.Rising.{InBox, all_box, in_order-kept}
 
 -- A sound statement has sound edges.

@@ -1,9 +1,9 @@
 -- What two combinations made one have at each place, and what of a combination stands at the places of a set.
-use Rattle.std.proofs.Common.{ℕ, ◌≡◌, ◌≢◌, ◌<◌, ◌≤◌, ◌+◌, suc, zero, Bool, true, false, List, [], ◌∷◌, length, replicate, get_or, set, cond, ap, sym, ◌∙◌, refl, arith, add-zero, zero-add, ◌⊎◌, inl, inr}
-use Rattle.std.proofs.lemmas.Bool.{false≢true, cases_eq, cases_lt, eq-eqb, ne_eqb}
+use Rattle.std.proofs.Common.{ℕ, ◌≡◌, ◌<◌, ◌≤◌, ◌+◌, suc, zero, Bool, true, false, List, [], ◌∷◌, length, replicate, get_or, cond, ap, sym, ◌∙◌, refl, arith, add-zero, zero-add, ◌⊎◌, inl, inr}
+use Rattle.std.proofs.lemmas.Bool.{false≢true, cases_lt, eq-eqb}
 use Rattle.std.proofs.lemmas.List.{get_or-set_same, get_or-set_other, length-set, length-replicate, get_or-replicate, get_or_past, ext_get_or}
 use Rattle.statement_meaning.specs.Combinations.{World}
-use Rattle.statement_meaning.specs.PartialCombinations.{single, either, AreApart, Fits, merged_from, merged, placed}
+use Rattle.statement_meaning.specs.PartialCombinations.{single, merged_from, merged, placed}
 
 length-merged_from : (left : ℕ → Bool) (t : ℕ) (c d : List ℕ) → length c ≡ length d → length (merged_from left t c d) ≡ length c
 length-merged_from left t [] d l = refl
