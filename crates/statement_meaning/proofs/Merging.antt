@@ -1,6 +1,6 @@
 -- What two combinations made one have at each place, and what of a combination stands at the places of a set.
-use Rattle.std.proofs.Common.{ℕ, ◌≡◌, ◌<◌, ◌≤◌, ◌+◌, suc, zero, Bool, true, false, List, [], ◌∷◌, length, replicate, get_or, cond, ap, sym, ◌∙◌, refl, arith, add-zero, zero-add, ◌⊎◌, inl, inr}
-use Rattle.std.proofs.lemmas.Bool.{false≢true, cases_lt, eq-eqb}
+use Rattle.std.proofs.Common.{ℕ, ◌≡◌, ◌<◌, ◌≤◌, ◌+◌, ◌&&◌, nat_lt, suc, zero, Bool, true, false, List, [], ◌∷◌, length, replicate, get_or, set, cond, ap, sym, ◌∙◌, refl, arith, add-zero, zero-add, ◌⊎◌, inl, inr}
+use Rattle.std.proofs.lemmas.Bool.{false≢true, cases_lt, cases_order, eq-eqb, lt-ltb, le-ltb}
 use Rattle.std.proofs.lemmas.List.{get_or-set_same, get_or-set_other, length-set, length-replicate, get_or-replicate, get_or_past, ext_get_or}
 use Rattle.statement_meaning.specs.Combinations.{World}
 use Rattle.statement_meaning.specs.PartialCombinations.{single, merged_from, merged, placed}
@@ -39,6 +39,36 @@ merged_second left c d l place h = merged_at left c d l place ∙ ap (λ (b : Bo
 -- and this says which list it is
 pub merged_is : (left : ℕ → Bool) (c d e : List ℕ) → length c ≡ length d → length e ≡ length c → ((place : ℕ) → place < length e → get_or e place 0 ≡ cond (left place) (get_or c place 0) (get_or d place 0)) → merged left c d ≡ e
 merged_is left c d e l m h = ext_get_or 0 (merged left c d) e (length-merged left c d l ∙ sym m) (λ i k. merged_at left c d l i ∙ sym (h i (omega (arith, k, length-merged left c d l, m))))
+
+-- Place by place, from the second on: the places before this one that are the first's have its rows.
+abbrev pub IsMergedTo : (ℕ → Bool) → List ℕ → List ℕ → ℕ → List ℕ → Type 0
+IsMergedTo left c d place made = (i : ℕ) → get_or made i 0 ≡ cond (nat_lt i place && left i) (get_or c i 0) (get_or d i 0)
+
+pub merged_none : (left : ℕ → Bool) (c d : List ℕ) → IsMergedTo left c d 0 d
+merged_none left c d i = ap (λ (b : Bool). cond (b && left i) (get_or c i 0) (get_or d i 0)) (sym (le-ltb i 0 (omega arith)))
+
+pub merged_more_in : (left : ℕ → Bool) (c d made : List ℕ) (place : ℕ) → left place ≡ true → place < length made → IsMergedTo left c d place made → IsMergedTo left c d (place + 1) (set made place (get_or c place 0))
+merged_more_in left c d made place h l m i = by_place (cases_order i place)
+  where
+    by_place : (i ≡ place) ⊎ ((i < place) ⊎ (place < i)) → get_or (set made place (get_or c place 0)) i 0 ≡ cond (nat_lt i (place + 1) && left i) (get_or c i 0) (get_or d i 0)
+    by_place (inl e) = rw (e, lt-ltb place (place + 1) (omega arith), h) (get_or-set_same made place (get_or c place 0) 0 l)
+    by_place (inr (inl less)) = get_or-set_other made place i (get_or c place 0) 0 (λ e. omega (arith, e, less)) ∙ (m i ∙ ap (λ (b : Bool). cond (b && left i) (get_or c i 0) (get_or d i 0)) (lt-ltb i place less ∙ sym (lt-ltb i (place + 1) (omega (arith, less)))))
+    by_place (inr (inr past)) = get_or-set_other made place i (get_or c place 0) 0 (λ e. omega (arith, e, past)) ∙ (m i ∙ ap (λ (b : Bool). cond (b && left i) (get_or c i 0) (get_or d i 0)) (le-ltb i place (omega (arith, past)) ∙ sym (le-ltb i (place + 1) (omega (arith, past)))))
+
+pub merged_more_out : (left : ℕ → Bool) (c d made : List ℕ) (place : ℕ) → left place ≡ false → IsMergedTo left c d place made → IsMergedTo left c d (place + 1) made
+merged_more_out left c d made place h m i = by_place (cases_order i place)
+  where
+    never : (b : Bool) → (b && left place) ≡ false
+    never true = h
+    never false = refl
+
+    by_place : (i ≡ place) ⊎ ((i < place) ⊎ (place < i)) → get_or made i 0 ≡ cond (nat_lt i (place + 1) && left i) (get_or c i 0) (get_or d i 0)
+    by_place (inl e) = m i ∙ rw e (ap (λ (b : Bool). cond b (get_or c place 0) (get_or d place 0)) (never (nat_lt place place) ∙ sym (never (nat_lt place (place + 1)))))
+    by_place (inr (inl less)) = m i ∙ ap (λ (b : Bool). cond (b && left i) (get_or c i 0) (get_or d i 0)) (lt-ltb i place less ∙ sym (lt-ltb i (place + 1) (omega (arith, less))))
+    by_place (inr (inr past)) = m i ∙ ap (λ (b : Bool). cond (b && left i) (get_or c i 0) (get_or d i 0)) (le-ltb i place (omega (arith, past)) ∙ sym (le-ltb i (place + 1) (omega (arith, past))))
+
+pub merged_all : (left : ℕ → Bool) (c d made : List ℕ) (place : ℕ) → length c ≡ length d → length made ≡ length c → length c ≤ place → IsMergedTo left c d place made → made ≡ merged left c d
+merged_all left c d made place l k past m = sym (merged_is left c d made l k (λ i less. m i ∙ ap (λ (b : Bool). cond (b && left i) (get_or c i 0) (get_or d i 0)) (lt-ltb i place (omega (arith, less, k, past)))))
 
 -- a combination with 0 at the places that are not in
 restricted_from : (ℕ → Bool) → ℕ → List ℕ → List ℕ
