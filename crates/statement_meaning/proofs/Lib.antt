@@ -11,6 +11,7 @@ pub mod InOrder
 pub mod JoinOrder
 pub mod Joining
 pub mod Keeping
+pub mod KeyedOffers
 pub mod Merging
 pub mod OnePlace
 pub mod PlaceSets

@@ -4,6 +4,7 @@
 use Rattle.std.specs.Prelude.{ℕ, suc, ◌≡◌, ◌<◌, Bool, true, false, ◌&&◌, ◌||◌, ◌==◌, nat_eq, nat_lt, List, [], ◌∷◌, length, map, replicate, set, slice_index_or, All, if◌then◌else◌}
 use Rattle.std.specs.List.{filter, flat_map}
 use Rattle.std.specs.Str.{bytes_eq}
+use Rattle.row_values.specs.declared.statement.ColRef.{ColRef}
 use Rattle.row_values.specs.declared.statement.Edge.{Edge}
 use Rattle.statement_meaning.specs.Combinations.{World, edges_hold}
 use Rattle.statement_meaning.specs.Sorting.{times}
@@ -37,6 +38,10 @@ is_inside places edge = places edge.left.place && places edge.right.place
 
 abbrev pub is_between : (ℕ → Bool) → (ℕ → Bool) → Edge → Bool
 is_between left right edge = (left edge.left.place && right edge.right.place) || (left edge.right.place && right edge.left.place)
+
+-- the column of an edge that is of a place of the set, where just one is
+abbrev pub end_in : (ℕ → Bool) → Edge → ColRef
+end_in places edge = if places edge.left.place then edge.left else edge.right
 
 abbrev pub edges_inside : World → (ℕ → Bool) → List Edge
 edges_inside world places = filter (is_inside places) world.edges
