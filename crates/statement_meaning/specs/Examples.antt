@@ -12,8 +12,10 @@ use Rattle.row_values.specs.declared.statement.Test.TheVariants.{Lt, Le, Ge, Bet
 use Rattle.row_values.specs.declared.statement.Item.{Item}
 use Rattle.row_values.specs.declared.statement.Item.TheVariants.{Column, CountAll, Sum, Min, Max}
 use Rattle.row_values.specs.declared.statement.OrderKey.{OrderKey}
-use Rattle.statement_meaning.specs.Combinations.{kept_combinations}
-use Rattle.statement_meaning.specs.Meaning.{Shown, Cell, meaning_of, shape_of}
+use Rattle.statement_meaning.specs.Combinations.{kept_combinations, world_of}
+use Rattle.statement_meaning.specs.Meaning.{Shown, Cell, is_lower, is_same_group, meaning_of, shape_of}
+use Rattle.statement_meaning.specs.PartialCombinations.{single, either, joined}
+use Rattle.statement_meaning.specs.Sorting.{in_order, runs}
 use Rattle.statement_meaning.specs.Spelling.{row_line}
 use Rattle.statement_meaning.specs.Vectors.{vector_of}
 
@@ -110,6 +112,35 @@ joined_in_order = refl
 shape_forgets_the_order : shape_of (join []) duplicate_keys ((1 ∷ 1 ∷ []) ∷ (0 ∷ 1 ∷ []) ∷ (1 ∷ 0 ∷ []) ∷ (0 ∷ 0 ∷ []) ∷ []) ≡ meaning_of (join []) duplicate_keys []
 shape_forgets_the_order = refl
 
+-- two sides of two places each: a(k) and b(k, m), c(m, n) and d(n)
+abbrev chain : Statement
+chain =
+    statement_of (a_place (codes "a") ∷ a_place (codes "b") ∷ a_place (codes "c") ∷ a_place (codes "d") ∷ []) []
+    (record { left = column 0 0; right = column 1 0 } ∷ record { left = column 2 0; right = column 1 1 } ∷ record { left = column 2 1; right = column 3 0 } ∷ [])
+    (Column (column 0 0) ∷ []) [] []
+
+abbrev chain_tables : List (List (List Value))
+chain_tables =
+    ((int 1 ∷ []) ∷ (int 2 ∷ []) ∷ [])
+    ∷ ((int 1 ∷ int 5 ∷ []) ∷ (int 1 ∷ int 6 ∷ []) ∷ (int 3 ∷ int 5 ∷ []) ∷ [])
+    ∷ ((int 5 ∷ int 8 ∷ []) ∷ (int 5 ∷ int 9 ∷ []) ∷ (int 6 ∷ int 8 ∷ []) ∷ [])
+    ∷ ((int 8 ∷ []) ∷ (int 8 ∷ []) ∷ [])
+    ∷ []
+
+abbrev front_side : List (List ℕ)
+front_side = (0 ∷ 1 ∷ 0 ∷ 0 ∷ []) ∷ (0 ∷ 0 ∷ 0 ∷ 0 ∷ []) ∷ []
+
+abbrev back_side : List (List ℕ)
+back_side = (0 ∷ 0 ∷ 0 ∷ 0 ∷ []) ∷ (0 ∷ 0 ∷ 2 ∷ 0 ∷ []) ∷ (0 ∷ 0 ∷ 0 ∷ 1 ∷ []) ∷ (0 ∷ 0 ∷ 2 ∷ 1 ∷ []) ∷ []
+
+-- the join stands in the order of its left side
+joined_sides : joined (world_of chain chain_tables []) (either (single 0) (single 1)) (either (single 2) (single 3)) (λ c. back_side) front_side ≡ (0 ∷ 1 ∷ 2 ∷ 0 ∷ []) ∷ (0 ∷ 1 ∷ 2 ∷ 1 ∷ []) ∷ (0 ∷ 0 ∷ 0 ∷ 0 ∷ []) ∷ (0 ∷ 0 ∷ 0 ∷ 1 ∷ []) ∷ []
+joined_sides = refl
+
+-- and has the kept combinations
+joined_sides_kept : in_order is_lower (joined (world_of chain chain_tables []) (either (single 0) (single 1)) (either (single 2) (single 3)) (λ c. back_side) front_side) ≡ kept_combinations chain chain_tables []
+joined_sides_kept = refl
+
 -- sales(town, year, units)
 abbrev sale : List ℕ → ℕ → ℕ → List Value
 sale town year units = Text town ∷ int year ∷ int units ∷ []
@@ -138,6 +169,10 @@ by_town = refl
 by_town_and_year : lines (meaning_of (of_sales (Column (column 0 0) ∷ Column (column 0 1) ∷ Sum (column 0 2) ∷ []) (column 0 0 ∷ column 0 1 ∷ []) (falling (column 0 1) ∷ [])) sales []) ≡ codes "row \"Aue\",9,5" ∷ codes "row \"Ulm\",8,5" ∷ codes "row \"Bonn\",7,10" ∷ codes "row \"Ulm\",7,3" ∷ []
 unfolding digits
 by_town_and_year = refl
+
+-- the combinations of sales in order of the town fall into runs, which are the groups
+runs_of_towns : runs (is_same_group sales (column 0 0 ∷ [])) ((4 ∷ []) ∷ (3 ∷ []) ∷ (1 ∷ []) ∷ (2 ∷ []) ∷ (0 ∷ []) ∷ []) ≡ ((4 ∷ []) ∷ []) ∷ ((3 ∷ []) ∷ (1 ∷ []) ∷ []) ∷ ((2 ∷ []) ∷ (0 ∷ []) ∷ []) ∷ []
+runs_of_towns = refl
 
 -- no row, no group
 no_groups : meaning_of (of_sales (CountAll ∷ []) (column 0 0 ∷ []) []) ([] ∷ []) [] ≡ []
