@@ -11,7 +11,7 @@ use Rattle.row_values.specs.declared.statement.ColRef.{ColRef}
 use Rattle.row_values.specs.declared.statement.Edge.{Edge}
 use Rattle.row_values.specs.declared.statement.Place.{Place}
 use Rattle.statement_meaning.specs.Combinations.{World, row_numbers, combinations, sizes_from, rows_pass, edges_hold, keeps, kept, world_of}
-use Rattle.statement_meaning.specs.Meaning.{is_lower}
+use Rattle.statement_meaning.specs.Meaning.{is_lower, rows_shown, shape_of, meaning_of}
 use Rattle.statement_meaning.specs.PartialCombinations.{all_places, HasSoundEdges, is_inside, Fits, is_same, Once}
 use Rattle.statement_meaning.specs.Sorting.{in_order, times}
 use Rattle.statement_meaning.proofs.Counting.{exact_combinations, HaveSame, times-append, times-filter, times_row_numbers, times_all, all_of_same, same_from_permutation}
@@ -144,6 +144,14 @@ once_places world places others h cs o = subst (λ (s : ℕ → Bool). Once worl
 pub once_is_kept : (world : World) → HasSoundEdges world → (cs : List (List ℕ)) → Once world (all_places world) cs → in_order is_lower cs ≡ kept world
 once_is_kept world sound cs o = in_order_same is_same exact_combinations is_lower lower_full cs (kept world) (once_same world (all_places world) cs (kept world) o (kept_once world sound)) ∙ in_order-kept world
 
--- and the other way round
+-- and the other way round;
 pub kept_is_once : (world : World) → HasSoundEdges world → (cs : List (List ℕ)) → in_order is_lower cs ≡ kept world → Once world (all_places world) cs
 kept_is_once world sound cs e = once_of_same world (all_places world) (kept world) cs (λ c. ap (times is_same c) (sym e) ∙ times_in_order is_same is_lower cs c) (kept_once world sound)
+
+-- its shape is what the statement means,
+pub once_means : (q : Statement) (tables : List (List (List Value))) (args : List Value) → IsSoundQuery q → (cs : List (List ℕ)) → Once (world_of q tables args) (all_places (world_of q tables args)) cs → shape_of q tables cs ≡ meaning_of q tables args
+once_means q tables args s cs o = ap (rows_shown tables q.items q.groups q.order) (once_is_kept (world_of q tables args) (sound_edges q tables args s) cs o ∙ sym (in_order-kept (world_of q tables args)))
+
+-- and among its members that pass a test, such as those of a group, each that fits and passes stands once.
+pub once_filtered : (world : World) (places : ℕ → Bool) (cs : List (List ℕ)) → Once world places cs → (p : List ℕ → Bool) (c : List ℕ) → Fits world places c → p c ≡ true → times is_same c (filter p cs) ≡ 1
+once_filtered world places cs o p c f h = times-filter is_same exact_combinations p c h cs ∙ o.once c f

@@ -1,11 +1,13 @@
 -- Sets of places as numbers, the sum of 2 ^ t over their places t, are sets of places as tests.
-use Rattle.std.proofs.Common.{ℕ, ◌≡◌, ◌<◌, ◌≤◌, ◌+◌, ◌-◌, ◌/◌, ◌%◌, ◌^◌, ◌==◌, ◌||◌, min, nat_lt, suc, zero, Bool, false, ap, sym, ◌∙◌, refl, arith, ◌⊎◌, inl, inr}
+use Rattle.std.proofs.Common.{ℕ, ◌≡◌, ◌<◌, ◌≤◌, ◌+◌, ◌-◌, ◌/◌, ◌%◌, ◌^◌, ◌==◌, ◌||◌, min, nat_lt, suc, zero, Bool, false, List, ap, sym, ◌∙◌, refl, arith, ◌⊎◌, inl, inr}
 use Rattle.std.specs.Int.{bit_at}
 use Rattle.std.specs.Prelude.{bit_and}
 use Rattle.std.proofs.lemmas.Bool.{false≢true, cases_lt, cases_eq, eqb-true, eq-eqb, ne_eqb, lt-ltb, le-ltb}
 use Rattle.std.proofs.lemmas.Nat.Bits.{bit_at_lowest, bit_at-suc, bit_at_ones, bit_at-pow_same, bit_at-pow_other, bit_at-lt, bit_at_and, bit_at-zero}
 use Rattle.std.proofs.Math.Nat.{div-eq_of_lt, pow-le-pow_right}
-use Rattle.statement_meaning.specs.PartialCombinations.{single, either, AreApart}
+use Rattle.statement_meaning.specs.Combinations.{World}
+use Rattle.statement_meaning.specs.PartialCombinations.{single, either, all_places, AreApart, Once}
+use Rattle.statement_meaning.proofs.Keeping.{once_places}
 
 -- whether the number, seen as a set, has this place
 abbrev pub has_place : ℕ → ℕ → Bool
@@ -92,3 +94,17 @@ place_apart a t h place e = has_place_single t place ∙ ne_eqb t place (λ q. f
 
 pub has_place_more : (a t : ℕ) → has_place a t ≡ false → (place : ℕ) → has_place (a + 2 ^ t) place ≡ either (has_place a) (single t) place
 has_place_more a t h place = has_place_sum a (2 ^ t) (place_apart a t h) place ∙ ap (λ (b : Bool). has_place a place || b) (has_place_single t place)
+
+-- Lists that have each combination once, over sets as numbers: one place, a set and a place, two sets, and all places.
+
+pub once_single : (world : World) (t : ℕ) (cs : List (List ℕ)) → Once world (single t) cs → Once world (has_place (2 ^ t)) cs
+once_single world t cs o = once_places world (single t) (has_place (2 ^ t)) (λ place. sym (has_place_single t place)) cs o
+
+pub once_more : (world : World) (a t : ℕ) → has_place a t ≡ false → (cs : List (List ℕ)) → Once world (either (has_place a) (single t)) cs → Once world (has_place (a + 2 ^ t)) cs
+once_more world a t h cs o = once_places world (either (has_place a) (single t)) (has_place (a + 2 ^ t)) (λ place. sym (has_place_more a t h place)) cs o
+
+pub once_both : (world : World) (a b : ℕ) → bit_and a b ≡ 0 → (cs : List (List ℕ)) → Once world (either (has_place a) (has_place b)) cs → Once world (has_place (a + b)) cs
+once_both world a b h cs o = once_places world (either (has_place a) (has_place b)) (has_place (a + b)) (λ place. sym (has_place_sum a b (disjoint_apart a b h) place)) cs o
+
+pub once_whole : (world : World) (cs : List (List ℕ)) → Once world (has_place (2 ^ world.wide - 1)) cs → Once world (all_places world) cs
+once_whole world cs o = once_places world (has_place (2 ^ world.wide - 1)) (all_places world) (has_place_below world.wide) cs o

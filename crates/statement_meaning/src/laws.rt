@@ -48,10 +48,11 @@ pub fn order_of_values()
 {}
 
 /// A list with each combination over all places once is the kept combinations in some order, and each such list has
-/// each once.
+/// each once. Its shape is what the statement means.
 pub fn each_kept_once()
     ensures kept { (q : Statement) (tables : List (List (List AnyValue))) (args : List AnyValue) (cs : List (List ℕ)) → IsSoundQuery q → Once (world_of q tables args) (all_places (world_of q tables args)) cs → in_order is_lower cs ≡ kept_combinations q tables args }
     ensures each_once { (q : Statement) (tables : List (List (List AnyValue))) (args : List AnyValue) (cs : List (List ℕ)) → IsSoundQuery q → in_order is_lower cs ≡ kept_combinations q tables args → Once (world_of q tables args) (all_places (world_of q tables args)) cs }
+    ensures meant { (q : Statement) (tables : List (List (List AnyValue))) (args : List AnyValue) (cs : List (List ℕ)) → IsSoundQuery q → Once (world_of q tables args) (all_places (world_of q tables args)) cs → shape_of q tables cs ≡ meaning_of q tables args }
 {}
 
 /// An access path of a place, which gives each row that meets the predicates once, gives each combination over that
