@@ -14,6 +14,7 @@ pub mod Keeping
 pub mod KeyedOffers
 pub mod Merging
 pub mod OnePlace
+pub mod Operators
 pub mod PlaceSets
 pub mod Plain
 pub mod Rising
