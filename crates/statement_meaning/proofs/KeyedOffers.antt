@@ -24,11 +24,6 @@ use Rattle.statement_meaning.proofs.Joining.{swap_apart, passing_offered}
 pub equal_back : (left right : Option Value) → compares is_eq left right ≡ true → compares is_eq right left ≡ true
 equal_back left right h = let e = equal_cells left right h in cells_equal right left (record { value = e.value; first = e.second; second = e.first })
 
--- with no cell nothing is found
-pub none_equal : {X : Type 0} (cell : X → Option Value) (xs : List X) → filter (λ x. compares is_eq None (cell x)) xs ≡ []
-none_equal cell [] = refl
-none_equal cell (x ∷ xs) = none_equal cell xs
-
 -- The two ends of an edge between two sets.
 
 -- the ends of an edge in two sets with no place in common, by which way round it lies
