@@ -1,7 +1,7 @@
 -- What is offered by a look-up: of the combinations of the right side, or of the rows of the place that enters, those
 -- whose cell in the column of one edge equals the cell of the left side's combination there.
-use Rattle.std.proofs.Common.{ℕ, ◌≡◌, ◌<◌, Bool, true, false, ◌&&◌, ◌||◌, ◌==◌, List, [], ◌∷◌, get_or, set, cond, ap, sym, ◌∙◌, refl}
-use Rattle.std.specs.Prelude.{filter, slice_get, Option, Some, None, nat_eq}
+use Rattle.std.proofs.Common.{ℕ, ◌≡◌, ◌<◌, Bool, true, false, ◌&&◌, ◌||◌, List, set, cond, ap, sym, ◌∙◌, refl}
+use Rattle.std.specs.Prelude.{filter, slice_get, Option, Some, nat_eq}
 use Rattle.std.specs.Ordering.{is_eq}
 use Rattle.std.proofs.lemmas.Bool.{false≢true, eqb-true, and_parts}
 use Rattle.row_values.specs.Statements.{Statement}
@@ -9,15 +9,15 @@ use Rattle.row_values.specs.declared.values.Value.{Value}
 use Rattle.row_values.specs.declared.statement.ColRef.{ColRef}
 use Rattle.row_values.specs.declared.statement.Edge.{Edge}
 use Rattle.row_values.specs.declared.statement.Pred.{Pred}
-use Rattle.statement_meaning.specs.Combinations.{World, row_numbers, edges_hold, row_at, world_of}
+use Rattle.statement_meaning.specs.Combinations.{row_numbers, edges_hold, row_at, world_of}
 use Rattle.statement_meaning.specs.Conditions.{compares, holds}
 use Rattle.statement_meaning.specs.Meaning.{cell_of}
 use Rattle.statement_meaning.specs.PartialCombinations.{single, AreApart, is_between, end_in, edges_between, Fits, Once, merged, Offers, RowsOnce, OffersRows}
 use Rattle.statement_meaning.proofs.Asking.{edge_asks, edge_asks_back, row_asks, row_asks_back, pred_asks}
 use Rattle.statement_meaning.proofs.Counting.{HaveSame}
 use Rattle.statement_meaning.proofs.Entering.{single_apart, passing_rows_offered, tested_rows_once, tested_rows_offered}
-use Rattle.statement_meaning.proofs.EqualCells.{AreEqual, equal_cells, cells_equal}
-use Rattle.statement_meaning.proofs.Joining.{swap_apart, passing_offered}
+use Rattle.statement_meaning.proofs.EqualCells.{equal_cells, cells_equal}
+use Rattle.statement_meaning.proofs.Joining.{passing_offered}
 
 -- Cells that compare as equal.
 

@@ -2,22 +2,22 @@
 --
 -- An operator gives a list by its own loops: v, of which it knows how it was made. The edges that it tests are those
 -- between the two sides, as a list of its own.
-use Rattle.std.proofs.Common.{ℕ, ◌≡◌, ◌<◌, ◌+◌, ◌^◌, Bool, true, false, List, [], ◌∷◌, length, map, set, ap, sym, ◌∙◌, subst}
+use Rattle.std.proofs.Common.{ℕ, ◌≡◌, ◌<◌, ◌+◌, ◌^◌, true, false, List, length, map, set, ap, sym, ◌∙◌, subst}
 use Rattle.std.specs.Prelude.{All, filter, flat_map, nat_eq, slice_get, Some, bit_and}
 use Rattle.std.specs.Ordering.{is_eq}
 use Rattle.row_values.specs.Statements.{Statement, IsSoundQuery}
 use Rattle.row_values.specs.declared.values.Value.{Value}
 use Rattle.row_values.specs.declared.statement.Edge.{Edge}
 use Rattle.row_values.specs.declared.statement.OrderKey.{OrderKey}
-use Rattle.statement_meaning.specs.Combinations.{World, row_numbers, row_at, edges_hold, world_of}
+use Rattle.statement_meaning.specs.Combinations.{row_numbers, row_at, edges_hold, world_of}
 use Rattle.statement_meaning.specs.Conditions.{compares}
 use Rattle.statement_meaning.specs.Meaning.{cell_of, is_before}
-use Rattle.statement_meaning.specs.PartialCombinations.{single, either, is_between, end_in, edges_between, Fits, Once, merged, joined, Offers, placed, joined_rows, RowsOnce, OffersRows}
+use Rattle.statement_meaning.specs.PartialCombinations.{single, is_between, end_in, Fits, Once, merged, joined, Offers, placed, joined_rows, RowsOnce, OffersRows}
 use Rattle.statement_meaning.specs.Sorting.{Rises}
 use Rattle.statement_meaning.proofs.Counting.{HaveSame}
 use Rattle.statement_meaning.proofs.Entering.{rows_once, joined_rows_once, all_rows_offered}
 use Rattle.statement_meaning.proofs.JoinOrder.{joined_rises, joined_rows_rises}
-use Rattle.statement_meaning.proofs.Joining.{joined_once, all_offered}
+use Rattle.statement_meaning.proofs.Joining.{joined_once}
 use Rattle.statement_meaning.proofs.Keeping.{sound_edges}
 use Rattle.statement_meaning.proofs.KeyedOffers.{equal_offered, equal_rows_offered}
 use Rattle.statement_meaning.proofs.PlaceSets.{has_place, disjoint_apart, once_single, once_more, once_both}
@@ -37,7 +37,7 @@ pub rows_join_once : (q : Statement) (tables : List (List (List Value))) (args :
 rows_join_once q tables args s outer place out i offered offers cs o es edges v is =
     subst (Once (world_of q tables args) (has_place (outer + 2 ^ place))) (sym (is ∙ ap (λ (es : List Edge). flat_map (λ c. filter (edges_hold (world_of q tables args) es) (map (set c place) (offered c))) cs) edges))
     (once_more (world_of q tables args) outer place out (joined_rows (world_of q tables args) (has_place outer) place offered cs)
-        (joined_rows_once (world_of q tables args) (sound_edges q tables args s) (has_place outer) place out i offered cs offers o))
+    (joined_rows_once (world_of q tables args) (sound_edges q tables args s) (has_place outer) place out i offered cs offers o))
 
 -- the nested loop over an access path,
 pub loop_once : (q : Statement) (tables : List (List (List Value))) (args : List Value) → IsSoundQuery q → (outer place : ℕ) → has_place outer place ≡ false → place < length q.places →
@@ -70,7 +70,7 @@ pub sides_join_once : (q : Statement) (tables : List (List (List Value))) (args 
 sides_join_once q tables args outer inner apart offered offers cs o es edges v is =
     subst (Once (world_of q tables args) (has_place (outer + inner))) (sym (is ∙ ap (λ (es : List Edge). flat_map (λ c. filter (edges_hold (world_of q tables args) es) (map (merged (has_place outer) c) (offered c))) cs) edges))
     (once_both (world_of q tables args) outer inner apart (joined (world_of q tables args) (has_place outer) (has_place inner) offered cs)
-        (joined_once (world_of q tables args) (has_place outer) (has_place inner) (disjoint_apart outer inner apart) offered cs offers o))
+    (joined_once (world_of q tables args) (has_place outer) (has_place inner) (disjoint_apart outer inner apart) offered cs offers o))
 
 -- and the hash join on one of the edges: of the inner side those whose cell equals the key.
 pub hash_once : (q : Statement) (tables : List (List (List Value))) (args : List Value) (outer inner : ℕ) → bit_and outer inner ≡ 0 →
@@ -100,4 +100,4 @@ pub hash_rises : (q : Statement) (tables : List (List (List Value))) (args : Lis
 hash_rises q tables args outer inner apart number edge at between keys inside cs ds o p r es edges v is =
     subst (Rises (is_before tables keys)) (sym (is ∙ ap (λ (es : List Edge). flat_map (λ c. filter (edges_hold (world_of q tables args) es) (map (merged (has_place outer) c) (filter (λ d. compares is_eq (cell_of tables c (end_in (has_place outer) edge)) (cell_of tables d (end_in (has_place inner) edge))) ds))) cs) edges))
     (joined_rises (world_of q tables args) (has_place outer) (has_place inner) tables keys inside (λ c. filter (λ d. compares is_eq (cell_of tables c (end_in (has_place outer) edge)) (cell_of tables d (end_in (has_place inner) edge))) ds) cs
-        (λ c f. equal_offered q tables args (has_place outer) (has_place inner) (disjoint_apart outer inner apart) number edge at between c ds f p) o.only r)
+    (λ c f. equal_offered q tables args (has_place outer) (has_place inner) (disjoint_apart outer inner apart) number edge at between c ds f p) o.only r)
