@@ -14,8 +14,8 @@ use Rattle.statement_meaning.proofs.Merging.{merged_is, length-placed, placed_th
 use Rattle.statement_meaning.proofs.Rising.{below}
 
 -- a place that isn't in the set is apart from it
-pub single_apart : (left : ℕ → Bool) (place : ℕ) → left place ≡ false → AreApart left (single place)
-single_apart left place out other h = ne_eqb place other (λ e. false≢true (sym out ∙ (ap left e ∙ h)))
+pub single_apart : (outer : ℕ → Bool) (place : ℕ) → outer place ≡ false → AreApart outer (single place)
+single_apart outer place out other h = ne_eqb place other (λ e. false≢true (sym out ∙ (ap outer e ∙ h)))
 
 -- The rows of a place as combinations over that place.
 
@@ -80,47 +80,47 @@ rows_once world sound place i rows o = record {
 
 -- A combination with one more row.
 
-pub merged_placed : (world : World) (left : ℕ → Bool) (place : ℕ) → left place ≡ false → place < world.wide → (c : List ℕ) → Fits world left c → (row : ℕ) → merged left c (placed world place row) ≡ set c place row
-merged_placed world left place out i c f row = merged_is left c (placed world place row) (set c place row) (f.long ∙ sym (length-placed world place row)) (length-set c place row) (λ other k. by_place other (single place other) refl)
+pub merged_placed : (world : World) (outer : ℕ → Bool) (place : ℕ) → outer place ≡ false → place < world.wide → (c : List ℕ) → Fits world outer c → (row : ℕ) → merged outer c (placed world place row) ≡ set c place row
+merged_placed world outer place out i c f row = merged_is outer c (placed world place row) (set c place row) (f.long ∙ sym (length-placed world place row)) (length-set c place row) (λ other k. by_place other (single place other) refl)
   where
-    by_set : (other : ℕ) → single place other ≡ false → (b : Bool) → left other ≡ b → get_or c other 0 ≡ cond b (get_or c other 0) (get_or (placed world place row) other 0)
+    by_set : (other : ℕ) → single place other ≡ false → (b : Bool) → outer other ≡ b → get_or c other 0 ≡ cond b (get_or c other 0) (get_or (placed world place row) other 0)
     by_set other n true e = refl
     by_set other n false e = f.zeros other e ∙ sym (placed_elsewhere world place row other n)
 
-    by_place : (other : ℕ) (b : Bool) → single place other ≡ b → get_or (set c place row) other 0 ≡ cond (left other) (get_or c other 0) (get_or (placed world place row) other 0)
-    by_place other true e = subst (λ (other : ℕ). get_or (set c place row) other 0 ≡ cond (left other) (get_or c other 0) (get_or (placed world place row) other 0)) (eqb-true place other e)
+    by_place : (other : ℕ) (b : Bool) → single place other ≡ b → get_or (set c place row) other 0 ≡ cond (outer other) (get_or c other 0) (get_or (placed world place row) other 0)
+    by_place other true e = subst (λ (other : ℕ). get_or (set c place row) other 0 ≡ cond (outer other) (get_or c other 0) (get_or (placed world place row) other 0)) (eqb-true place other e)
         (get_or-set_same c place row 0 (rw f.long i) ∙ sym (ap (λ (b : Bool). cond b (get_or c place 0) (get_or (placed world place row) place 0)) out ∙ placed_there world place row i))
-    by_place other false e = get_or-set_other c place other row 0 (λ q. false≢true (sym e ∙ eq-eqb place other (sym q))) ∙ by_set other e (left other) refl
+    by_place other false e = get_or-set_other c place other row 0 (λ q. false≢true (sym e ∙ eq-eqb place other (sym q))) ∙ by_set other e (outer other) refl
 
-rows_merged : (world : World) (left : ℕ → Bool) (place : ℕ) → left place ≡ false → place < world.wide → (c : List ℕ) → Fits world left c → (rows : List ℕ) → map (merged left c) (map (placed world place) rows) ≡ map (set c place) rows
-rows_merged world left place out i c f [] = refl
-rows_merged world left place out i c f (row ∷ rows) = rw (merged_placed world left place out i c f row, rows_merged world left place out i c f rows) refl
+rows_merged : (world : World) (outer : ℕ → Bool) (place : ℕ) → outer place ≡ false → place < world.wide → (c : List ℕ) → Fits world outer c → (rows : List ℕ) → map (merged outer c) (map (placed world place) rows) ≡ map (set c place) rows
+rows_merged world outer place out i c f [] = refl
+rows_merged world outer place out i c f (row ∷ rows) = rw (merged_placed world outer place out i c f row, rows_merged world outer place out i c f rows) refl
 
 -- the join by a place is the join by the combinations over that place
-pub joined_rows_is : (world : World) (left : ℕ → Bool) (place : ℕ) → left place ≡ false → place < world.wide → (offered : List ℕ → List ℕ) (cs : List (List ℕ)) → All (Fits world left) cs → joined world left (single place) (λ c. map (placed world place) (offered c)) cs ≡ joined_rows world left place offered cs
-joined_rows_is world left place out i offered [] a = refl
-joined_rows_is world left place out i offered (c ∷ cs) a =
-    rw (rows_merged world left place out i c (All-head (Fits world left) c cs a) (offered c), joined_rows_is world left place out i offered cs (All-tail (Fits world left) c cs a)) refl
+pub joined_rows_is : (world : World) (outer : ℕ → Bool) (place : ℕ) → outer place ≡ false → place < world.wide → (offered : List ℕ → List ℕ) (cs : List (List ℕ)) → All (Fits world outer) cs → joined world outer (single place) (λ c. map (placed world place) (offered c)) cs ≡ joined_rows world outer place offered cs
+joined_rows_is world outer place out i offered [] a = refl
+joined_rows_is world outer place out i offered (c ∷ cs) a =
+    rw (rows_merged world outer place out i c (All-head (Fits world outer) c cs a) (offered c), joined_rows_is world outer place out i offered cs (All-tail (Fits world outer) c cs a)) refl
 
-placed_offered : (world : World) → HasSoundEdges world → (left : ℕ → Bool) (place : ℕ) → left place ≡ false → place < world.wide → (c : List ℕ) → Fits world left c → (rows : List ℕ) → OffersRows world left place c rows → Offers world left (single place) c (map (placed world place) rows)
-placed_offered world sound left place out i c f rows o = record {
+placed_offered : (world : World) → HasSoundEdges world → (outer : ℕ → Bool) (place : ℕ) → outer place ≡ false → place < world.wide → (c : List ℕ) → Fits world outer c → (rows : List ℕ) → OffersRows world outer place c rows → Offers world outer (single place) c (map (placed world place) rows)
+placed_offered world sound outer place out i c f rows o = record {
   only = all_placed world sound place i rows o.only;
   once = λ d g m.
       let here = g.within place (eq-eqb place place refl) in
-      let whole : merged left c d ≡ set c place (get_or d place 0) = ap (merged left c) (sym (placed_row world place i d g)) ∙ merged_placed world left place out i c f (get_or d place 0) in
-      times_placed world place i d g rows ∙ o.once (get_or d place 0) here.0 here.1 (ap (edges_hold world (edges_between world left (single place))) (sym whole) ∙ m);
+      let whole : merged outer c d ≡ set c place (get_or d place 0) = ap (merged outer c) (sym (placed_row world place i d g)) ∙ merged_placed world outer place out i c f (get_or d place 0) in
+      times_placed world place i d g rows ∙ o.once (get_or d place 0) here.0 here.1 (ap (edges_hold world (edges_between world outer (single place))) (sym whole) ∙ m);
 }
 
--- The join by a place: where each combination of the left side stands once, and each is offered the rows that it may be
--- joined with, each combination of the left side's places and this one stands once in what is made.
-pub joined_rows_once : (world : World) → HasSoundEdges world → (left : ℕ → Bool) (place : ℕ) → left place ≡ false → place < world.wide → (offered : List ℕ → List ℕ) (cs : List (List ℕ)) → ((c : List ℕ) → Fits world left c → OffersRows world left place c (offered c)) → Once world left cs → Once world (either left (single place)) (joined_rows world left place offered cs)
-joined_rows_once world sound left place out i offered cs offers o =
-    subst (Once world (either left (single place))) (joined_rows_is world left place out i offered cs o.only)
-    (joined_once world left (single place) (single_apart left place out) (λ c. map (placed world place) (offered c)) cs (λ c f. placed_offered world sound left place out i c f (offered c) (offers c f)) o)
+-- The join by a place: where each combination of the outer side stands once, and each is offered the rows that it may be
+-- joined with, each combination of the outer side's places and this one stands once in what is made.
+pub joined_rows_once : (world : World) → HasSoundEdges world → (outer : ℕ → Bool) (place : ℕ) → outer place ≡ false → place < world.wide → (offered : List ℕ → List ℕ) (cs : List (List ℕ)) → ((c : List ℕ) → Fits world outer c → OffersRows world outer place c (offered c)) → Once world outer cs → Once world (either outer (single place)) (joined_rows world outer place offered cs)
+joined_rows_once world sound outer place out i offered cs offers o =
+    subst (Once world (either outer (single place))) (joined_rows_is world outer place out i offered cs o.only)
+    (joined_once world outer (single place) (single_apart outer place out) (λ c. map (placed world place) (offered c)) cs (λ c f. placed_offered world sound outer place out i c f (offered c) (offers c f)) o)
 
 -- Rows once, and what is offered.
 
--- Rows in any order, of which those are left that pass a test and then meet the predicates, where all that meet the
+-- Rows in any order, of which those stay that pass a test and then meet the predicates, where all that meet the
 -- predicates pass the test: a scan (each passes), and an index range.
 pub tested_rows_once : (world : World) (place : ℕ) (rows : List ℕ) (p : ℕ → Bool) → HaveSame nat_eq (row_numbers (world.size place)) rows → ((row : ℕ) → row < world.size place → world.passes place row ≡ true → p row ≡ true) → RowsOnce world place (filter (world.passes place) (filter p rows))
 tested_rows_once world place rows p h t = record {
@@ -136,23 +136,23 @@ scanned_once world place = record {
 }
 
 -- all rows that meet the predicates: the nested loop
-pub all_rows_offered : (world : World) (left : ℕ → Bool) (place : ℕ) (c rows : List ℕ) → RowsOnce world place rows → OffersRows world left place c rows
-all_rows_offered world left place c rows o = record { only = o.only; once = λ row i e m. o.once row i e }
+pub all_rows_offered : (world : World) (outer : ℕ → Bool) (place : ℕ) (c rows : List ℕ) → RowsOnce world place rows → OffersRows world outer place c rows
+all_rows_offered world outer place c rows o = record { only = o.only; once = λ row i e m. o.once row i e }
 
 -- of these, those that pass a test which all pass that meet the edges by which the place enters: the hash join
-pub passing_rows_offered : (world : World) (left : ℕ → Bool) (place : ℕ) (c rows : List ℕ) (p : ℕ → Bool) → RowsOnce world place rows → ((row : ℕ) → row < world.size place → world.passes place row ≡ true → edges_hold world (edges_between world left (single place)) (set c place row) ≡ true → p row ≡ true) → OffersRows world left place c (filter p rows)
-passing_rows_offered world left place c rows p o h = record {
+pub passing_rows_offered : (world : World) (outer : ℕ → Bool) (place : ℕ) (c rows : List ℕ) (p : ℕ → Bool) → RowsOnce world place rows → ((row : ℕ) → row < world.size place → world.passes place row ≡ true → edges_hold world (edges_between world outer (single place)) (set c place row) ≡ true → p row ≡ true) → OffersRows world outer place c (filter p rows)
+passing_rows_offered world outer place c rows p o h = record {
   only = All-filter p (λ row. (row < world.size place) × (world.passes place row ≡ true)) rows o.only;
   once = λ row i e m. times-filter nat_eq exact_numbers p row (h row i e m) rows ∙ o.once row i e;
 }
 
--- rows in any order, of which those are left that pass such a test and then meet the predicates: the index probe
-pub tested_rows_offered : (world : World) (left : ℕ → Bool) (place : ℕ) (c rows : List ℕ) (p : ℕ → Bool) → HaveSame nat_eq (row_numbers (world.size place)) rows → ((row : ℕ) → row < world.size place → world.passes place row ≡ true → edges_hold world (edges_between world left (single place)) (set c place row) ≡ true → p row ≡ true) → OffersRows world left place c (filter (world.passes place) (filter p rows))
-tested_rows_offered world left place c rows p h t = record {
+-- rows in any order, of which those stay that pass such a test and then meet the predicates: the index probe
+pub tested_rows_offered : (world : World) (outer : ℕ → Bool) (place : ℕ) (c rows : List ℕ) (p : ℕ → Bool) → HaveSame nat_eq (row_numbers (world.size place)) rows → ((row : ℕ) → row < world.size place → world.passes place row ≡ true → edges_hold world (edges_between world outer (single place)) (set c place row) ≡ true → p row ≡ true) → OffersRows world outer place c (filter (world.passes place) (filter p rows))
+tested_rows_offered world outer place c rows p h t = record {
   only = λ k d l. (All-filter (world.passes place) (λ row. row < world.size place) (filter p rows) (All-filter p (λ row. row < world.size place) rows (all_of_same nat_eq exact_numbers (λ row. row < world.size place) (row_numbers (world.size place)) rows h (below (world.size place)))) k d l, filter_passes (world.passes place) (filter p rows) k d l);
   once = λ row i e m. times-filter nat_eq exact_numbers (world.passes place) row e (filter p rows) ∙ (times-filter nat_eq exact_numbers p row (t row i e m) rows ∙ (sym (h row) ∙ times_row_numbers (world.size place) row i));
 }
 
 -- none, where no row of the place may be joined with it
-pub no_rows_offered : (world : World) (left : ℕ → Bool) (place : ℕ) (c : List ℕ) → ((row : ℕ) → row < world.size place → world.passes place row ≡ true → edges_hold world (edges_between world left (single place)) (set c place row) ≡ true → ⊥) → OffersRows world left place c []
-no_rows_offered world left place c h = record { only = All-nil (λ row. (row < world.size place) × (world.passes place row ≡ true)); once = λ row i e m. absurd (h row i e m) }
+pub no_rows_offered : (world : World) (outer : ℕ → Bool) (place : ℕ) (c : List ℕ) → ((row : ℕ) → row < world.size place → world.passes place row ≡ true → edges_hold world (edges_between world outer (single place)) (set c place row) ≡ true → ⊥) → OffersRows world outer place c []
+no_rows_offered world outer place c h = record { only = All-nil (λ row. (row < world.size place) × (world.passes place row ≡ true)); once = λ row i e m. absurd (h row i e m) }

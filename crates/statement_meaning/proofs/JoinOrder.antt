@@ -1,4 +1,4 @@
--- A join keeps the order of its left side, where the order reads only places of the left side.
+-- A join keeps the order of its outer side, where the order reads only places of the outer side.
 use Rattle.std.proofs.Common.{ℕ, ◌≡◌, ◌<◌, ◌++◌, Bool, true, false, List, [], ◌∷◌, get_or, set, map, cond, ap, sym, ◌∙◌, refl}
 use Rattle.std.specs.Prelude.{All, filter, flat_map, Option, slice_get}
 use Rattle.std.specs.Cmp.{IsStrictWeakOrder}
@@ -71,28 +71,28 @@ keys_second tables (key ∷ keys) c d x h =
 pub alike_by_keys : (tables : List (List (List Value))) (keys : List OrderKey) (c d : List ℕ) → AgreeOnKeys keys d c → AreAlike (is_before tables keys) c d
 alike_by_keys tables keys c d h x = (ap is_lt (keys_first tables keys d c x h), ap is_lt (keys_second tables keys d c x h))
 
--- The join keeps the order by keys that the left side has.
-pub joined_rises : (world : World) (left right : ℕ → Bool) (tables : List (List (List Value))) (keys : List OrderKey) → All (λ key. left key.at.place ≡ true) keys → (offered : List ℕ → List (List ℕ)) (cs : List (List ℕ)) → ((c : List ℕ) → Fits world left c → Offers world left right c (offered c)) → All (Fits world left) cs → Rises (is_before tables keys) cs → Rises (is_before tables keys) (joined world left right offered cs)
-joined_rises world left right tables keys h offered cs offers a r =
-    pieces_rise (is_before tables keys) (keys_ranked tables keys) (λ c. filter (edges_hold world (edges_between world left right)) (map (merged left c) (offered c))) cs
-    (All-weaker (Fits world left) (λ c. All (AreAlike (is_before tables keys) c) (filter (edges_hold world (edges_between world left right)) (map (merged left c) (offered c)))) piece cs a) r
+-- The join keeps the order by keys that the outer side has.
+pub joined_rises : (world : World) (outer inner : ℕ → Bool) (tables : List (List (List Value))) (keys : List OrderKey) → All (λ key. outer key.at.place ≡ true) keys → (offered : List ℕ → List (List ℕ)) (cs : List (List ℕ)) → ((c : List ℕ) → Fits world outer c → Offers world outer inner c (offered c)) → All (Fits world outer) cs → Rises (is_before tables keys) cs → Rises (is_before tables keys) (joined world outer inner offered cs)
+joined_rises world outer inner tables keys h offered cs offers a r =
+    pieces_rise (is_before tables keys) (keys_ranked tables keys) (λ c. filter (edges_hold world (edges_between world outer inner)) (map (merged outer c) (offered c))) cs
+    (All-weaker (Fits world outer) (λ c. All (AreAlike (is_before tables keys) c) (filter (edges_hold world (edges_between world outer inner)) (map (merged outer c) (offered c)))) piece cs a) r
   where
-    alike : (c : List ℕ) → Fits world left c → (d : List ℕ) → Fits world right d → AreAlike (is_before tables keys) c (merged left c d)
-    alike c f d g = alike_by_keys tables keys c (merged left c d) (All-weaker (λ key. left key.at.place ≡ true) (λ key. get_or (merged left c d) key.at.place 0 ≡ get_or c key.at.place 0) (λ key k. merged_first left c d (f.long ∙ sym g.long) key.at.place k) keys h)
+    alike : (c : List ℕ) → Fits world outer c → (d : List ℕ) → Fits world inner d → AreAlike (is_before tables keys) c (merged outer c d)
+    alike c f d g = alike_by_keys tables keys c (merged outer c d) (All-weaker (λ key. outer key.at.place ≡ true) (λ key. get_or (merged outer c d) key.at.place 0 ≡ get_or c key.at.place 0) (λ key k. merged_first outer c d (f.long ∙ sym g.long) key.at.place k) keys h)
 
-    piece : (c : List ℕ) → Fits world left c → All (AreAlike (is_before tables keys) c) (filter (edges_hold world (edges_between world left right)) (map (merged left c) (offered c)))
-    piece c f = All-filter (edges_hold world (edges_between world left right)) (AreAlike (is_before tables keys) c) (map (merged left c) (offered c)) (All-map (AreAlike (is_before tables keys) c) (merged left c) (offered c) (All-weaker (Fits world right) (λ d. AreAlike (is_before tables keys) c (merged left c d)) (alike c f) (offered c) (offers c f).only))
+    piece : (c : List ℕ) → Fits world outer c → All (AreAlike (is_before tables keys) c) (filter (edges_hold world (edges_between world outer inner)) (map (merged outer c) (offered c)))
+    piece c f = All-filter (edges_hold world (edges_between world outer inner)) (AreAlike (is_before tables keys) c) (map (merged outer c) (offered c)) (All-map (AreAlike (is_before tables keys) c) (merged outer c) (offered c) (All-weaker (Fits world inner) (λ d. AreAlike (is_before tables keys) c (merged outer c d)) (alike c f) (offered c) (offers c f).only))
 
 -- and so does the join by one place
-pub joined_rows_rises : (world : World) (left : ℕ → Bool) (place : ℕ) → left place ≡ false → (tables : List (List (List Value))) (keys : List OrderKey) → All (λ key. left key.at.place ≡ true) keys → (offered : List ℕ → List ℕ) (cs : List (List ℕ)) → Rises (is_before tables keys) cs → Rises (is_before tables keys) (joined_rows world left place offered cs)
-joined_rows_rises world left place out tables keys h offered cs r =
-    pieces_rise (is_before tables keys) (keys_ranked tables keys) (λ c. filter (edges_hold world (edges_between world left (single place))) (map (set c place) (offered c))) cs (λ k d l. piece (get_or cs k d)) r
+pub joined_rows_rises : (world : World) (outer : ℕ → Bool) (place : ℕ) → outer place ≡ false → (tables : List (List (List Value))) (keys : List OrderKey) → All (λ key. outer key.at.place ≡ true) keys → (offered : List ℕ → List ℕ) (cs : List (List ℕ)) → Rises (is_before tables keys) cs → Rises (is_before tables keys) (joined_rows world outer place offered cs)
+joined_rows_rises world outer place out tables keys h offered cs r =
+    pieces_rise (is_before tables keys) (keys_ranked tables keys) (λ c. filter (edges_hold world (edges_between world outer (single place))) (map (set c place) (offered c))) cs (λ k d l. piece (get_or cs k d)) r
   where
     alike : (c : List ℕ) (row : ℕ) → AreAlike (is_before tables keys) c (set c place row)
-    alike c row = alike_by_keys tables keys c (set c place row) (All-weaker (λ key. left key.at.place ≡ true) (λ key. get_or (set c place row) key.at.place 0 ≡ get_or c key.at.place 0) (λ key k. get_or-set_other c place key.at.place row 0 (λ q. false≢true (sym out ∙ (ap left (sym q) ∙ k)))) keys h)
+    alike c row = alike_by_keys tables keys c (set c place row) (All-weaker (λ key. outer key.at.place ≡ true) (λ key. get_or (set c place row) key.at.place 0 ≡ get_or c key.at.place 0) (λ key k. get_or-set_other c place key.at.place row 0 (λ q. false≢true (sym out ∙ (ap outer (sym q) ∙ k)))) keys h)
 
-    piece : (c : List ℕ) → All (AreAlike (is_before tables keys) c) (filter (edges_hold world (edges_between world left (single place))) (map (set c place) (offered c)))
-    piece c = All-filter (edges_hold world (edges_between world left (single place))) (AreAlike (is_before tables keys) c) (map (set c place) (offered c)) (All-map (AreAlike (is_before tables keys) c) (set c place) (offered c) (λ k d l. alike c (get_or (offered c) k d)))
+    piece : (c : List ℕ) → All (AreAlike (is_before tables keys) c) (filter (edges_hold world (edges_between world outer (single place))) (map (set c place) (offered c)))
+    piece c = All-filter (edges_hold world (edges_between world outer (single place))) (AreAlike (is_before tables keys) c) (map (set c place) (offered c)) (All-map (AreAlike (is_before tables keys) c) (set c place) (offered c) (λ k d l. alike c (get_or (offered c) k d)))
 
 -- The order of an access path: rows that rise by a column of their place rise as combinations over that place.
 

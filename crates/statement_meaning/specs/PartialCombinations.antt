@@ -14,18 +14,14 @@ abbrev pub single : ℕ → ℕ → Bool
 single place other = place == other
 
 abbrev pub either : (ℕ → Bool) → (ℕ → Bool) → ℕ → Bool
-either left right place = left place || right place
+either outer inner place = outer place || inner place
 
 abbrev pub all_places : World → ℕ → Bool
 all_places world place = nat_lt place world.wide
 
 -- no place is in both sets
 abbrev pub AreApart : (ℕ → Bool) → (ℕ → Bool) → Type 0
-AreApart left right = (place : ℕ) → left place ≡ true → right place ≡ false
-
--- each place of the set is one of the statement
-abbrev pub AreThere : World → (ℕ → Bool) → Type 0
-AreThere world places = (place : ℕ) → places place ≡ true → place < world.wide
+AreApart outer inner = (place : ℕ) → outer place ≡ true → inner place ≡ false
 
 -- each edge joins two different places of the statement
 pub record HasSoundEdges (world : World) : Type 0 where
@@ -37,7 +33,7 @@ abbrev pub is_inside : (ℕ → Bool) → Edge → Bool
 is_inside places edge = places edge.left.place && places edge.right.place
 
 abbrev pub is_between : (ℕ → Bool) → (ℕ → Bool) → Edge → Bool
-is_between left right edge = (left edge.left.place && right edge.right.place) || (left edge.right.place && right edge.left.place)
+is_between outer inner edge = (outer edge.left.place && inner edge.right.place) || (outer edge.right.place && inner edge.left.place)
 
 -- the column of an edge that is of a place of the set, where just one is
 abbrev pub end_in : (ℕ → Bool) → Edge → ColRef
@@ -47,7 +43,7 @@ abbrev pub edges_inside : World → (ℕ → Bool) → List Edge
 edges_inside world places = filter (is_inside places) world.edges
 
 abbrev pub edges_between : World → (ℕ → Bool) → (ℕ → Bool) → List Edge
-edges_between world left right = filter (is_between left right) world.edges
+edges_between world outer inner = filter (is_between outer inner) world.edges
 
 -- A combination over these places: each has a row that meets the predicates on it, every edge inside is met, and 0
 -- stands at the other places.
@@ -68,24 +64,24 @@ pub record Once (world : World) (places : ℕ → Bool) (cs : List (List ℕ)) :
 
 -- Two combinations made one, from this place on: the row of the first at the places of its set, else the second's.
 abbrev pub merged_from : (ℕ → Bool) → ℕ → List ℕ → List ℕ → List ℕ
-merged_from left place [] ds = []
-merged_from left place (row ∷ rows) [] = []
-merged_from left place (row ∷ rows) (other ∷ others) = (if left place then row else other) ∷ merged_from left (suc place) rows others
+merged_from outer place [] ds = []
+merged_from outer place (row ∷ rows) [] = []
+merged_from outer place (row ∷ rows) (other ∷ others) = (if outer place then row else other) ∷ merged_from outer (suc place) rows others
 
 abbrev pub merged : (ℕ → Bool) → List ℕ → List ℕ → List ℕ
-merged left c d = merged_from left 0 c d
+merged outer c d = merged_from outer 0 c d
 
--- What a join makes of the combinations of its left side, where for each some of the right side are offered: those
--- made one that meet every edge between the two sides, in the order of the left side.
+-- What a join makes of the combinations of its outer side, where for each some of the inner side are offered: those
+-- made one that meet every edge between the two sides, in the order of the outer side.
 abbrev pub joined : World → (ℕ → Bool) → (ℕ → Bool) → (List ℕ → List (List ℕ)) → List (List ℕ) → List (List ℕ)
-joined world left right offered cs =
-    flat_map (λ c. filter (edges_hold world (edges_between world left right)) (map (merged left c) (offered c))) cs
+joined world outer inner offered cs =
+    flat_map (λ c. filter (edges_hold world (edges_between world outer inner)) (map (merged outer c) (offered c))) cs
 
--- What is offered to a combination of the left side has no other than combinations of the right side, and each once
+-- What is offered to a combination of the outer side has no other than combinations of the inner side, and each once
 -- that meets with it every edge between.
-pub record Offers (world : World) (left : ℕ → Bool) (right : ℕ → Bool) (c : List ℕ) (offered : List (List ℕ)) : Type 0 where
-  pub only : All (Fits world right) offered
-  pub once : (d : List ℕ) → Fits world right d → edges_hold world (edges_between world left right) (merged left c d) ≡ true → times is_same d offered ≡ 1
+pub record Offers (world : World) (outer : ℕ → Bool) (inner : ℕ → Bool) (c : List ℕ) (offered : List (List ℕ)) : Type 0 where
+  pub only : All (Fits world inner) offered
+  pub once : (d : List ℕ) → Fits world inner d → edges_hold world (edges_between world outer inner) (merged outer c d) ≡ true → times is_same d offered ≡ 1
 
 -- The same where one place enters, and its rows are offered.
 
@@ -94,8 +90,8 @@ abbrev pub placed : World → ℕ → ℕ → List ℕ
 placed world place row = set (replicate world.wide 0) place row
 
 abbrev pub joined_rows : World → (ℕ → Bool) → ℕ → (List ℕ → List ℕ) → List (List ℕ) → List (List ℕ)
-joined_rows world left place offered cs =
-    flat_map (λ c. filter (edges_hold world (edges_between world left (single place))) (map (set c place) (offered c))) cs
+joined_rows world outer place offered cs =
+    flat_map (λ c. filter (edges_hold world (edges_between world outer (single place))) (map (set c place) (offered c))) cs
 
 -- the rows of a place that meet the predicates on it, each once
 pub record RowsOnce (world : World) (place : ℕ) (rows : List ℕ) : Type 0 where
@@ -104,6 +100,6 @@ pub record RowsOnce (world : World) (place : ℕ) (rows : List ℕ) : Type 0 whe
 
 -- What is offered to a combination has no other rows than these, and each once that meets with it every edge by which
 -- the place enters.
-pub record OffersRows (world : World) (left : ℕ → Bool) (place : ℕ) (c : List ℕ) (rows : List ℕ) : Type 0 where
+pub record OffersRows (world : World) (outer : ℕ → Bool) (place : ℕ) (c : List ℕ) (rows : List ℕ) : Type 0 where
   pub only : All (λ row. (row < world.size place) × (world.passes place row ≡ true)) rows
-  pub once : (row : ℕ) → row < world.size place → world.passes place row ≡ true → edges_hold world (edges_between world left (single place)) (set c place row) ≡ true → times nat_eq row rows ≡ 1
+  pub once : (row : ℕ) → row < world.size place → world.passes place row ≡ true → edges_hold world (edges_between world outer (single place)) (set c place row) ≡ true → times nat_eq row rows ≡ 1

@@ -61,15 +61,15 @@ pub fn access_gives_each_once()
     ensures { (world : World) (place : ℕ) (rows : List ℕ) → HasSoundEdges world → place < world.wide → RowsOnce world place rows → Once world (single place) (map (placed world place) rows) }
 {}
 
-/// A join of two sides with no place in common gives each combination over both once, where the left side has each
+/// A join of two sides with no place in common gives each combination over both once, where the outer side has each
 /// once, and each is offered what it may be joined with.
 pub fn join_gives_each_once()
-    ensures { (world : World) (left : ℕ → Bool) (right : ℕ → Bool) (offered : List ℕ → List (List ℕ)) (cs : List (List ℕ)) → AreApart left right → Once world left cs → ((c : List ℕ) → Fits world left c → Offers world left right c (offered c)) → Once world (either left right) (joined world left right offered cs) }
+    ensures { (world : World) (outer : ℕ → Bool) (inner : ℕ → Bool) (offered : List ℕ → List (List ℕ)) (cs : List (List ℕ)) → AreApart outer inner → Once world outer cs → ((c : List ℕ) → Fits world outer c → Offers world outer inner c (offered c)) → Once world (either outer inner) (joined world outer inner offered cs) }
 {}
 
 /// So does a join by one place, where each combination is offered the rows that it may be joined with.
 pub fn join_by_place_gives_each_once()
-    ensures { (world : World) (left : ℕ → Bool) (place : ℕ) (offered : List ℕ → List ℕ) (cs : List (List ℕ)) → HasSoundEdges world → place < world.wide → left place ≡ false → Once world left cs → ((c : List ℕ) → Fits world left c → OffersRows world left place c (offered c)) → Once world (either left (single place)) (joined_rows world left place offered cs) }
+    ensures { (world : World) (outer : ℕ → Bool) (place : ℕ) (offered : List ℕ → List ℕ) (cs : List (List ℕ)) → HasSoundEdges world → place < world.wide → outer place ≡ false → Once world outer cs → ((c : List ℕ) → Fits world outer c → OffersRows world outer place c (offered c)) → Once world (either outer (single place)) (joined_rows world outer place offered cs) }
 {}
 
 /// A sort by any order keeps each combination once.
@@ -77,10 +77,10 @@ pub fn sort_keeps_each_once()
     ensures { (world : World) (places : ℕ → Bool) (cs : List (List ℕ)) (ds : List (List ℕ)) → IsPermutation cs ds → Once world places cs → Once world places ds }
 {}
 
-/// A join keeps the order of its left side by keys that are columns of the left side.
+/// A join keeps the order of its outer side by keys that are columns of the outer side.
 pub fn join_keeps_order()
-    ensures sides { (world : World) (left : ℕ → Bool) (right : ℕ → Bool) (tables : List (List (List AnyValue))) (keys : List AnyKey) (offered : List ℕ → List (List ℕ)) (cs : List (List ℕ)) → All (λ key. left key.at.place ≡ true) keys → Once world left cs → ((c : List ℕ) → Fits world left c → Offers world left right c (offered c)) → Rises (is_before tables keys) cs → Rises (is_before tables keys) (joined world left right offered cs) }
-    ensures by_place { (world : World) (left : ℕ → Bool) (place : ℕ) (tables : List (List (List AnyValue))) (keys : List AnyKey) (offered : List ℕ → List ℕ) (cs : List (List ℕ)) → All (λ key. left key.at.place ≡ true) keys → left place ≡ false → Rises (is_before tables keys) cs → Rises (is_before tables keys) (joined_rows world left place offered cs) }
+    ensures sides { (world : World) (outer : ℕ → Bool) (inner : ℕ → Bool) (tables : List (List (List AnyValue))) (keys : List AnyKey) (offered : List ℕ → List (List ℕ)) (cs : List (List ℕ)) → All (λ key. outer key.at.place ≡ true) keys → Once world outer cs → ((c : List ℕ) → Fits world outer c → Offers world outer inner c (offered c)) → Rises (is_before tables keys) cs → Rises (is_before tables keys) (joined world outer inner offered cs) }
+    ensures by_place { (world : World) (outer : ℕ → Bool) (place : ℕ) (tables : List (List (List AnyValue))) (keys : List AnyKey) (offered : List ℕ → List ℕ) (cs : List (List ℕ)) → All (λ key. outer key.at.place ≡ true) keys → outer place ≡ false → Rises (is_before tables keys) cs → Rises (is_before tables keys) (joined_rows world outer place offered cs) }
 {}
 
 /// The stable order by keys of a list in the order of row numbers is one sort by the keys and then the row numbers.
