@@ -1,0 +1,149 @@
+-- The anchor that is chosen is one of the list that passed its check, so its plan is within the bound.
+use Rattle.std.proofs.Common.{ℕ, zero, suc, ◌≡◌, ◌≤◌, ◌<◌, ◌+◌, ◌*◌, Bool, true, false, cond, List, [], ◌∷◌, length, take, slice_get, All, Option, Some, None, if◌then◌else◌, ap, sym, ◌∙◌, refl, subst, arith}
+use Rattle.std.specs.List.{AllByRecursion, find}
+use Rattle.std.specs.Option.{option_map_or}
+use Rattle.std.proofs.lemmas.Bool.{false≢true}
+use Rattle.std.proofs.lemmas.Option.{none-some, same_Some}
+use Rattle.fraction_math.specs.Fraction.{Fraction}
+use Rattle.row_values.specs.Statements.{Statement}
+use Rattle.plan_trees.specs.PlanSpace.{IsValidTop}
+use Rattle.plan_trees.specs.Statistics.{Statistics, IsSoundVector}
+use Rattle.plan_trees.specs.Trees.{TopTree}
+use Rattle.cost_model.specs.Checks.{PassesSelectivityCheck, PassesCostCheck}
+use Rattle.cost_model.specs.Costs.{top_cost}
+use Rattle.cost_model.specs.LeastCost.{IsLeastCost}
+use Rattle.cost_model.specs.Laws.{CostCheckLaw, IsReuse, SelectivityCheckLaw}
+use Rattle.cache_model.specs.Caches.{Anchor, CachedPlan, CacheState, top_numbered}
+use Rattle.cache_model.specs.Choices.{ByCost, ByOptimum, BySelectivity, Candidate, Choice, by_nearness, candidates_of, choice_among, choice_of, is_cheap_enough, is_nearer, passes_cost_check, passes_selectivity_check, placed_from, position_chosen, put_in_order}
+use Rattle.cache_model.specs.Faithful.{IsFaithfulAnchor, IsFaithfulCache, IsFaithfulPlan}
+use Rattle.cache_model.specs.Laws.{CostTestLaw, IsWithinBound, SelectivityTestLaw}
+use Rattle.cache_model.proofs.Counts.{counts_some}
+use Rattle.cache_model.proofs.Lists.{each_from, each_take, each_to, found_is}
+use Rattle.cache_model.proofs.LookUps.{numbered_has}
+
+-- Candidates are anchors of the list.
+
+abbrev pub StandsIn : List Anchor → (Anchor → Type 0) → Candidate → Type 0
+StandsIn anchors P candidate = (slice_get anchors candidate.position ≡ Some candidate.anchor) × P candidate.anchor
+
+next_place : (all : List Anchor) (n k : ℕ) (x : Option Anchor) → slice_get all (n + suc k) ≡ x → slice_get all (n + 1 + k) ≡ x
+next_place all n k x e = let same : n + 1 + k ≡ n + suc k = omega arith in ap (slice_get all) same ∙ e
+
+first_place : (all : List Anchor) (n : ℕ) (x : Option Anchor) → slice_get all (n + 0) ≡ x → slice_get all n ≡ x
+first_place all n x e = let same : n ≡ n + 0 = omega arith in ap (slice_get all) same ∙ e
+
+each_placed : (P : Anchor → Type 0) (all : List Anchor) (n : ℕ) (anchors : List Anchor) → ((k : ℕ) → slice_get all (n + k) ≡ slice_get anchors k) → AllByRecursion P anchors → AllByRecursion (StandsIn all P) (placed_from n anchors)
+each_placed P all n [] at h = tt
+each_placed P all n (anchor ∷ anchors) at h =
+    ((first_place all n (Some anchor) (at 0), h.0), each_placed P all (n + 1) anchors (λ k. next_place all n k (slice_get anchors k) (at (suc k))) h.1)
+
+put_by : (P : Candidate → Type 0) (b : Bool) (new first : Candidate) (rest others : List Candidate) → P new → P first → AllByRecursion P rest → AllByRecursion P others → AllByRecursion P (cond b (first ∷ others) (new ∷ first ∷ rest))
+put_by P true new first rest others n f r o = (f, o)
+put_by P false new first rest others n f r o = (n, (f, r))
+
+each_put : (P : Candidate → Type 0) (instance : List ℕ) (new : Candidate) (candidates : List Candidate) → P new → AllByRecursion P candidates → AllByRecursion P (put_in_order instance new candidates)
+each_put P instance new [] n h = (n, tt)
+each_put P instance new (candidate ∷ candidates) n h =
+    put_by P (is_nearer instance candidate.anchor new.anchor) new candidate candidates (put_in_order instance new candidates) n h.0 h.1 (each_put P instance new candidates n h.1)
+
+each_in_order : (P : Candidate → Type 0) (instance : List ℕ) (candidates : List Candidate) → AllByRecursion P candidates → AllByRecursion P (by_nearness instance candidates)
+each_in_order P instance [] h = tt
+each_in_order P instance (candidate ∷ candidates) h = each_put P instance candidate (by_nearness instance candidates) h.0 (each_in_order P instance candidates h.1)
+
+-- What is chosen has passed.
+
+pub record IsChosen (P : Candidate → Type 0) (passes : Anchor → Bool) (position : ℕ) : Type 0 where
+  pub candidate : Candidate
+  pub known : P candidate
+  pub passed : passes candidate.anchor ≡ true
+  pub placed : candidate.position ≡ position
+
+chosen_by : (P : Candidate → Type 0) (passes : Anchor → Bool) (b : Bool) (first : Candidate) (tried position : ℕ) (rest : Choice) → passes first.anchor ≡ b → P first
+    → (position_chosen rest ≡ Some position → IsChosen P passes position) → position_chosen (cond b (ByCost first.position tried) rest) ≡ Some position → IsChosen P passes position
+chosen_by P passes true first tried position rest e h later is = record { candidate = first; known = h; passed = e; placed = same_Some first.position position is }
+chosen_by P passes false first tried position rest e h later is = later is
+
+chosen_among : (P : Candidate → Type 0) (passes : Anchor → Bool) (tried : ℕ) (candidates : List Candidate) (position : ℕ) → AllByRecursion P candidates → position_chosen (choice_among passes tried candidates) ≡ Some position → IsChosen P passes position
+chosen_among P passes tried [] position h is = absurd (none-some position is)
+chosen_among P passes tried (candidate ∷ candidates) position h is =
+    chosen_by P passes (passes candidate.anchor) candidate (tried + 1) position (choice_among passes (tried + 1) candidates) refl h.0 (λ k. chosen_among P passes (tried + 1) candidates position h.1 k) is
+
+-- Both checks bound the cost.
+
+abbrev pub IsBounded : Statement → Statistics → List ℕ → Fraction → TopTree → Type 0
+IsBounded q s instance lambda top = (least : ℕ) → IsLeastCost q s instance least → top_cost q s instance top * lambda.den ≤ lambda.num * least
+
+reuse_of : (q : Statement) (s : Statistics) (plans : List CachedPlan) (executions : ℕ) (instance : List ℕ) (anchor : Anchor) (least : ℕ) (h : IsFaithfulAnchor q s plans executions anchor) → IsSoundVector q s instance → IsValidTop q s.indexed h.top → IsLeastCost q s instance least
+    → IsReuse q s h.top instance anchor.at least anchor.least
+reuse_of q s plans executions instance anchor least h sound valid is_least =
+    record {
+      valid = valid;
+      instance_vector = sound.one_each;
+      anchor_vector = h.vector.one_each;
+      anchor_counts = counts_some q s anchor.at h.vector;
+      least_there = is_least;
+      least_known = h.least;
+    }
+
+by_selectivity : SelectivityCheckLaw → SelectivityTestLaw → (q : Statement) (s : Statistics) (plans : List CachedPlan) (executions : ℕ) (instance : List ℕ) (lambda : Fraction) (anchor : Anchor) (h : IsFaithfulAnchor q s plans executions anchor) → IsSoundVector q s instance → IsValidTop q s.indexed h.top
+    → passes_selectivity_check lambda instance anchor ≡ true → IsBounded q s instance lambda h.top
+by_selectivity law tells q s plans executions instance lambda anchor h sound valid passed = λ least is_least.
+    law q s h.top instance anchor.at lambda.num lambda.den least anchor.least (reuse_of q s plans executions instance anchor least h sound valid is_least)
+    (subst (λ cost. PassesSelectivityCheck lambda.num lambda.den cost anchor.least anchor.at instance) h.plan_cost ((tells lambda instance anchor).0 passed))
+
+by_cost : CostCheckLaw → CostTestLaw → (q : Statement) (s : Statistics) (plans : List CachedPlan) (executions : ℕ) (instance : List ℕ) (lambda : Fraction) (anchor : Anchor) (h : IsFaithfulAnchor q s plans executions anchor) → IsSoundVector q s instance → IsValidTop q s.indexed h.top
+    → passes_cost_check q s lambda instance plans anchor ≡ true → IsBounded q s instance lambda h.top
+by_cost law tells q s plans executions instance lambda anchor h sound valid passed = λ least is_least.
+    law q s h.top instance anchor.at lambda.num lambda.den least anchor.least (reuse_of q s plans executions instance anchor least h sound valid is_least)
+    ((tells q s lambda instance plans anchor h.top h.there).0 passed)
+
+-- The choice.
+
+valid_there : (cache : CacheState) (q : Statement) (s : Statistics) (executions budget number : ℕ) (top : TopTree) → IsFaithfulCache cache q s executions budget → top_numbered cache.plans number ≡ Some top → IsValidTop q s.indexed top
+valid_there cache q s executions budget number top h there =
+    numbered_has (IsValidTop q s.indexed) cache.plans number top
+    (each_to (IsFaithfulPlan q s cache.anchors cache.next_plan) (λ plan. IsValidTop q s.indexed plan.top) (λ plan k. k.valid) cache.plans
+    (each_from (IsFaithfulPlan q s cache.anchors cache.next_plan) cache.plans h.plans)) there
+
+within_bound : (cache : CacheState) (q : Statement) (s : Statistics) (executions : ℕ) (instance : List ℕ) (lambda : Fraction) (position : ℕ) (candidate : Candidate) (h : IsFaithfulAnchor q s cache.plans executions candidate.anchor)
+    → candidate.position ≡ position → slice_get cache.anchors candidate.position ≡ Some candidate.anchor → IsValidTop q s.indexed h.top → IsBounded q s instance lambda h.top → IsWithinBound cache q s instance lambda position
+within_bound cache q s executions instance lambda position candidate h placed there valid bound =
+    record {
+      anchor = candidate.anchor;
+      there = subst (λ p. slice_get cache.anchors p ≡ Some candidate.anchor) placed there;
+      top = h.top;
+      plan = h.there;
+      valid = valid;
+      bound = bound;
+    }
+
+each_stands : (cache : CacheState) (q : Statement) (s : Statistics) (executions budget : ℕ) → IsFaithfulCache cache q s executions budget
+    → AllByRecursion (StandsIn cache.anchors (IsFaithfulAnchor q s cache.plans executions)) (placed_from 0 cache.anchors)
+each_stands cache q s executions budget h =
+    each_placed (IsFaithfulAnchor q s cache.plans executions) cache.anchors 0 cache.anchors (λ k. ap (slice_get cache.anchors) (omega arith)) (each_from (IsFaithfulAnchor q s cache.plans executions) cache.anchors h.anchors)
+
+choice_by : SelectivityCheckLaw → CostCheckLaw → SelectivityTestLaw → CostTestLaw → (cache : CacheState) (q : Statement) (s : Statistics) (executions budget : ℕ) (instance : List ℕ) (lambda : Fraction) (recosts position : ℕ) → IsFaithfulCache cache q s executions budget → IsSoundVector q s instance
+    → (found : Option Candidate) → find (λ candidate. passes_selectivity_check lambda instance candidate.anchor) (placed_from 0 cache.anchors) ≡ found
+    → position_chosen (option_map_or (λ candidate. BySelectivity candidate.position) found (choice_among (passes_cost_check q s lambda instance cache.plans) 0 (candidates_of instance recosts cache.anchors))) ≡ Some position
+    → IsWithinBound cache q s instance lambda position
+choice_by selectivity cost tells_selectivity tells_cost cache q s executions budget instance lambda recosts position h sound (Some candidate) e is =
+    let stands = found_is (StandsIn cache.anchors (IsFaithfulAnchor q s cache.plans executions)) (λ candidate. passes_selectivity_check lambda instance candidate.anchor) (placed_from 0 cache.anchors) candidate (each_stands cache q s executions budget h) e in
+    let faithful = stands.0.1 in
+    let valid = valid_there cache q s executions budget candidate.anchor.plan faithful.top h faithful.there in
+    within_bound cache q s executions instance lambda position candidate faithful (same_Some candidate.position position is) stands.0.0 valid
+    (by_selectivity selectivity tells_selectivity q s cache.plans executions instance lambda candidate.anchor faithful sound valid stands.1)
+choice_by selectivity cost tells_selectivity tells_cost cache q s executions budget instance lambda recosts position h sound None e is =
+    let among =
+          each_take (StandsIn cache.anchors (IsFaithfulAnchor q s cache.plans executions)) recosts (by_nearness instance (placed_from 0 cache.anchors))
+          (each_in_order (StandsIn cache.anchors (IsFaithfulAnchor q s cache.plans executions)) instance (placed_from 0 cache.anchors) (each_stands cache q s executions budget h)) in
+    let chosen = chosen_among (StandsIn cache.anchors (IsFaithfulAnchor q s cache.plans executions)) (passes_cost_check q s lambda instance cache.plans) 0 (candidates_of instance recosts cache.anchors) position among is in
+    let faithful = chosen.known.1 in
+    let valid = valid_there cache q s executions budget chosen.candidate.anchor.plan faithful.top h faithful.there in
+    within_bound cache q s executions instance lambda position chosen.candidate faithful chosen.placed chosen.known.0 valid
+    (by_cost cost tells_cost q s cache.plans executions instance lambda chosen.candidate.anchor faithful sound valid chosen.passed)
+
+pub choice_bounded : SelectivityCheckLaw → CostCheckLaw → SelectivityTestLaw → CostTestLaw → (cache : CacheState) (q : Statement) (s : Statistics) (executions budget : ℕ) (instance : List ℕ) (lambda : Fraction) (recosts position : ℕ) → IsFaithfulCache cache q s executions budget → IsSoundVector q s instance
+    → position_chosen (choice_of cache q s instance lambda recosts) ≡ Some position → IsWithinBound cache q s instance lambda position
+choice_bounded selectivity cost tells_selectivity tells_cost cache q s executions budget instance lambda recosts position h sound is =
+    choice_by selectivity cost tells_selectivity tells_cost cache q s executions budget instance lambda recosts position h sound
+    (find (λ candidate. passes_selectivity_check lambda instance candidate.anchor) (placed_from 0 cache.anchors)) refl is

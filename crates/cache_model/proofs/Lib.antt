@@ -1,0 +1,9 @@
+pub mod Choosing
+pub mod Counts
+pub mod Distances
+pub mod Evicting
+pub mod Lists
+pub mod LookUps
+pub mod Reusing
+pub mod Saving
+pub mod Tests

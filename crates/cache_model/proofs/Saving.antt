@@ -1,0 +1,244 @@
+-- What is kept of an optimum, with an older plan or with its own: the cache stays faithful.
+use Rattle.std.proofs.Common.{ℕ, zero, suc, ◌≡◌, ◌≢◌, ◌≤◌, ◌<◌, ◌+◌, ◌==◌, nat_lt, Bool, true, false, cond, not, List, [], ◌∷◌, ◌++◌, length, All, Option, Some, None, if◌then◌else◌, ap, sym, ◌∙◌, refl, subst, arith, le_trans}
+use Rattle.std.specs.Prelude.{IsTrue, ◌↔◌}
+use Rattle.std.specs.List.{AllByRecursion, filter, find}
+use Rattle.std.specs.Option.{option_map, option_map_or, option_or}
+use Rattle.std.proofs.lemmas.Bool.{false≢true, ltb-true, ltb-false}
+use Rattle.std.proofs.lemmas.List.{length_push}
+use Rattle.std.proofs.lemmas.Option.{none-some, same_Some}
+use Rattle.fraction_math.specs.Fraction.{Fraction}
+use Rattle.row_values.specs.Statements.{Statement}
+use Rattle.plan_trees.specs.PlanSpace.{IsValidTop}
+use Rattle.plan_trees.specs.Statistics.{Statistics, IsSoundVector, IsWithin}
+use Rattle.plan_trees.specs.Trees.{TopTree}
+use Rattle.cost_model.specs.Costs.{top_cost}
+use Rattle.cost_model.specs.LeastCost.{IsLeastCost}
+use Rattle.cache_model.specs.Caches.{Anchor, CachedPlan, CacheState, top_numbered, uses_of, with_anchor, with_plan, without}
+use Rattle.cache_model.specs.Faithful.{IsFaithfulAnchor, IsFaithfulCache, IsFaithfulPlan, IsWide}
+use Rattle.cache_model.specs.Keeping.{KeptNothing, TellsSame, covering, covers, evicted_for_room, first_least, kept_after, kept_in_room, kept_with_new, kept_with_old, lesser_by, new_anchor, old_plan, victim, with_room}
+use Rattle.cache_model.specs.Laws.{IsOptimum}
+use Rattle.cache_model.specs.declared.limits.TheConstants.{ANCHOR_LIMIT}
+use Rattle.cache_model.proofs.Evicting.{faithful_without}
+use Rattle.cache_model.proofs.Lists.{all_from, each_filter, each_from, each_push, each_to, each_two_from, found_is, length-filter, none_found, pairs_from, two_push}
+use Rattle.cache_model.proofs.LookUps.{anchored_new, anchored_push, each_by_number, each_shortens, is_of_other, is_other, numbered_new, numbered_push}
+use Rattle.cache_model.proofs.Reusing.{Rises, anchor_later, faithful_after}
+
+-- One more anchor.
+
+one_longer : {X : Type 0} (xs : List X) (x : X) (limit : ℕ) → length xs < limit → length (xs ++ x ∷ []) ≤ limit
+one_longer xs x limit less = let e = length_push xs x in omega arith
+
+rises_to : (executions : ℕ) (a : Anchor) → a.execution ≤ executions → a.execution < executions + 1
+rises_to executions a h = omega arith
+
+rise_to : (q : Statement) (s : Statistics) (plans : List CachedPlan) (executions : ℕ) (anchors : List Anchor) (new : Anchor) → new.execution ≡ executions + 1 → AllByRecursion (IsFaithfulAnchor q s plans executions) anchors
+    → AllByRecursion (λ anchor. Rises anchor new) anchors
+rise_to q s plans executions anchors new e h =
+    each_to (IsFaithfulAnchor q s plans executions) (λ anchor. Rises anchor new) (λ anchor k. subst (λ n. anchor.execution < n) (sym e) (rises_to executions anchor k.execution)) anchors h
+
+plan_anchored : (q : Statement) (s : Statistics) (anchors : List Anchor) (new : Anchor) (next : ℕ) (plan : CachedPlan) → IsFaithfulPlan q s anchors next plan → IsFaithfulPlan q s (anchors ++ new ∷ []) next plan
+plan_anchored q s anchors new next plan h = record { valid = h.valid; anchored = anchored_push anchors new plan.number h.anchored; given = h.given }
+
+new_is_faithful : (q : Statement) (s : Statistics) (plans : List CachedPlan) (executions : ℕ) (instance : List ℕ) (number : ℕ) (top : TopTree) (least : ℕ) → top_numbered plans number ≡ Some top → IsSoundVector q s instance → IsLeastCost q s instance least
+    → IsFaithfulAnchor q s plans (executions + 1) (new_anchor (executions + 1) instance number (top_cost q s instance top) least)
+new_is_faithful q s plans executions instance number top least there vector is_least =
+    record {
+      vector = vector;
+      top = top;
+      there = there;
+      plan_cost = refl;
+      least = is_least;
+      execution = omega arith;
+      uses = record { low = omega arith; high = omega arith };
+    }
+
+-- Of an older plan.
+
+faithful_with_old : (cache : CacheState) (q : Statement) (s : Statistics) (executions budget : ℕ) (instance : List ℕ) (number : ℕ) (top : TopTree) (least : ℕ) → IsFaithfulCache cache q s executions budget → ¬ IsWide q s
+    → length cache.anchors < ANCHOR_LIMIT → top_numbered cache.plans number ≡ Some top → IsSoundVector q s instance → IsLeastCost q s instance least
+    → IsFaithfulCache (with_anchor cache (new_anchor (executions + 1) instance number (top_cost q s instance top) least)) q s (executions + 1) budget
+faithful_with_old cache q s executions budget instance number top least h narrow room there vector is_least =
+    let new : Anchor = new_anchor (executions + 1) instance number (top_cost q s instance top) least in
+    let each = each_from (IsFaithfulAnchor q s cache.plans executions) cache.anchors h.anchors in
+    record {
+      plans = λ k d inside. plan_anchored q s cache.anchors new cache.next_plan _ (h.plans k d inside);
+      anchors =
+        all_from (IsFaithfulAnchor q s cache.plans (executions + 1)) (cache.anchors ++ new ∷ [])
+        (each_push (IsFaithfulAnchor q s cache.plans (executions + 1)) cache.anchors new
+        (each_to (IsFaithfulAnchor q s cache.plans executions) (IsFaithfulAnchor q s cache.plans (executions + 1)) (anchor_later q s cache.plans executions (executions + 1) (omega arith)) cache.anchors each)
+        (new_is_faithful q s cache.plans executions instance number top least there vector is_least));
+      numbers_rise = h.numbers_rise;
+      executions_rise = pairs_from Rises (cache.anchors ++ new ∷ []) (two_push Rises cache.anchors new (each_two_from Rises cache.anchors h.executions_rise) (rise_to q s cache.plans executions cache.anchors new refl each));
+      no_two_same = h.no_two_same;
+      few_plans = h.few_plans;
+      few_anchors = one_longer cache.anchors new ANCHOR_LIMIT room;
+      no_plan_if_wide = h.no_plan_if_wide;
+      no_anchor_if_wide = λ wide. absurd (narrow wide);
+    }
+
+-- Of its own plan.
+
+plan_numbered : (q : Statement) (s : Statistics) (anchors : List Anchor) (new : Anchor) (next : ℕ) (plan : CachedPlan) → IsFaithfulPlan q s anchors next plan → IsFaithfulPlan q s (anchors ++ new ∷ []) (next + 1) plan
+plan_numbered q s anchors new next plan h =
+    record { valid = h.valid; anchored = anchored_push anchors new plan.number h.anchored; given = le_trans h.given (omega arith) }
+
+anchor_numbered : (q : Statement) (s : Statistics) (plans : List CachedPlan) (new : CachedPlan) (executions : ℕ) (anchor : Anchor) → IsFaithfulAnchor q s plans executions anchor → IsFaithfulAnchor q s (plans ++ new ∷ []) executions anchor
+anchor_numbered q s plans new executions anchor h =
+    record {
+      vector = h.vector;
+      top = h.top;
+      there = numbered_push plans new anchor.plan h.top h.there;
+      plan_cost = h.plan_cost;
+      least = h.least;
+      execution = h.execution;
+      uses = h.uses;
+    }
+
+faithful_with_new : (cache : CacheState) (q : Statement) (s : Statistics) (executions budget : ℕ) (instance : List ℕ) (top : TopTree) (least : ℕ) → IsFaithfulCache cache q s executions budget → ¬ IsWide q s
+    → length cache.anchors < ANCHOR_LIMIT → length cache.plans < budget → AllByRecursion (λ plan. plan.top ≢ top) cache.plans → IsValidTop q s.indexed top → IsSoundVector q s instance → IsLeastCost q s instance least
+    → IsFaithfulCache (kept_with_new cache (executions + 1) instance (top_cost q s instance) least top) q s (executions + 1) budget
+faithful_with_new cache q s executions budget instance top least h narrow room few others valid vector is_least =
+    let plan : CachedPlan = record { number = cache.next_plan; top = top } in
+    let new : Anchor = new_anchor (executions + 1) instance cache.next_plan (top_cost q s instance top) least in
+    let each = each_from (IsFaithfulAnchor q s cache.plans executions) cache.anchors h.anchors in
+    let plans = each_from (IsFaithfulPlan q s cache.anchors cache.next_plan) cache.plans h.plans in
+    let below = each_to (IsFaithfulPlan q s cache.anchors cache.next_plan) (λ x. x.number < cache.next_plan) (λ x k. k.given) cache.plans plans in
+    record {
+      plans =
+        all_from (IsFaithfulPlan q s (cache.anchors ++ new ∷ []) (cache.next_plan + 1)) (cache.plans ++ plan ∷ [])
+        (each_push (IsFaithfulPlan q s (cache.anchors ++ new ∷ []) (cache.next_plan + 1)) cache.plans plan
+        (each_to (IsFaithfulPlan q s cache.anchors cache.next_plan) (IsFaithfulPlan q s (cache.anchors ++ new ∷ []) (cache.next_plan + 1)) (plan_numbered q s cache.anchors new cache.next_plan) cache.plans plans)
+        (record { valid = valid; anchored = anchored_new cache.anchors new cache.next_plan refl; given = omega arith }));
+      anchors =
+        all_from (IsFaithfulAnchor q s (cache.plans ++ plan ∷ []) (executions + 1)) (cache.anchors ++ new ∷ [])
+        (each_push (IsFaithfulAnchor q s (cache.plans ++ plan ∷ []) (executions + 1)) cache.anchors new
+        (each_to (IsFaithfulAnchor q s cache.plans executions) (IsFaithfulAnchor q s (cache.plans ++ plan ∷ []) (executions + 1))
+        (λ anchor k. anchor_numbered q s cache.plans plan (executions + 1) anchor (anchor_later q s cache.plans executions (executions + 1) (omega arith) anchor k)) cache.anchors each)
+        (new_is_faithful q s (cache.plans ++ plan ∷ []) executions instance cache.next_plan top least (numbered_new cache.plans cache.next_plan top below) vector is_least));
+      numbers_rise = pairs_from (λ a b. a.number < b.number) (cache.plans ++ plan ∷ []) (two_push (λ a b. a.number < b.number) cache.plans plan (each_two_from (λ a b. a.number < b.number) cache.plans h.numbers_rise) below);
+      executions_rise = pairs_from Rises (cache.anchors ++ new ∷ []) (two_push Rises cache.anchors new (each_two_from Rises cache.anchors h.executions_rise) (rise_to q s cache.plans executions cache.anchors new refl each));
+      no_two_same = pairs_from (λ a b. a.top ≢ b.top) (cache.plans ++ plan ∷ []) (two_push (λ a b. a.top ≢ b.top) cache.plans plan (each_two_from (λ a b. a.top ≢ b.top) cache.plans h.no_two_same) others);
+      few_plans = one_longer cache.plans plan budget few;
+      few_anchors = one_longer cache.anchors new ANCHOR_LIMIT room;
+      no_plan_if_wide = λ wide. absurd (narrow wide);
+      no_anchor_if_wide = λ wide. absurd (narrow wide);
+    }
+
+-- The first of the least is one of the list.
+
+lesser_has : {X : Type 0} (P : X → Type 0) (b : Bool) (x y : X) → P x → P y → P (cond b y x)
+lesser_has P true x y h k = k
+lesser_has P false x y h k = h
+
+least_has : {X : Type 0} (P : X → Type 0) (number : X → ℕ) (x : X) (rest : Option X) → P x → ((y : X) → rest ≡ Some y → P y) → P (lesser_by number x rest)
+least_has P number x None h later = h
+least_has P number x (Some y) h later = lesser_has P (nat_lt (number y) (number x)) x y h (later y refl)
+
+pub first_least_has : {X : Type 0} (P : X → Type 0) (number : X → ℕ) (xs : List X) (y : X) → AllByRecursion P xs → first_least number xs ≡ Some y → P y
+first_least_has P number [] y h e = absurd (none-some y e)
+first_least_has P number (x ∷ xs) y h e =
+    subst P (same_Some (lesser_by number x (first_least number xs)) y e) (least_has P number x (first_least number xs) h.0 (λ z k. first_least_has P number xs z h.1 k))
+
+none_least : {X : Type 0} (number : X → ℕ) (xs : List X) → first_least number xs ≡ None → xs ≡ []
+none_least number [] e = refl
+none_least number (x ∷ xs) e = absurd (none-some (lesser_by number x (first_least number xs)) (sym e))
+
+-- Room.
+
+pub record HasRoom (cache base : CacheState) (q : Statement) (s : Statistics) (executions budget : ℕ) (top : TopTree) : Type 0 where
+  pub faithful : IsFaithfulCache base q s executions budget
+  pub next : base.next_plan ≡ cache.next_plan
+  pub few : length base.plans < budget
+  pub room : length base.anchors < ANCHOR_LIMIT
+  pub others : AllByRecursion (λ plan. plan.top ≢ top) base.plans
+
+room_without : (cache : CacheState) (q : Statement) (s : Statistics) (executions budget : ℕ) (top : TopTree) (gone : CachedPlan) → IsFaithfulCache cache q s executions budget → length cache.anchors < ANCHOR_LIMIT → AllByRecursion (λ plan. plan.top ≢ top) cache.plans
+    → length (filter (is_other gone.number) cache.plans) < length cache.plans → HasRoom cache (without cache gone.number) q s executions budget top
+room_without cache q s executions budget top gone h room others less =
+    record {
+      faithful = faithful_without cache q s executions budget gone.number h;
+      next = refl;
+      few = le_trans less h.few_plans;
+      room = below_filter (length (filter (is_of_other gone.number) cache.anchors)) (length cache.anchors) ANCHOR_LIMIT (length-filter (is_of_other gone.number) cache.anchors) room;
+      others = each_filter (λ plan. plan.top ≢ top) (λ plan. plan.top ≢ top) (is_other gone.number) (λ plan e k. k) cache.plans others;
+    }
+  where
+    below_filter : (a b c : ℕ) → a ≤ b → b < c → a < c
+    below_filter a b c x y = omega arith
+
+room_by_victim : (cache : CacheState) (q : Statement) (s : Statistics) (executions budget : ℕ) (top : TopTree) → 1 ≤ budget → IsFaithfulCache cache q s executions budget → length cache.anchors < ANCHOR_LIMIT → AllByRecursion (λ plan. plan.top ≢ top) cache.plans
+    → budget ≤ length cache.plans → (found : Option CachedPlan) → victim cache ≡ found → HasRoom cache (option_map_or (without cache) (option_map (λ plan. plan.number) found) cache) q s executions budget top
+room_by_victim cache q s executions budget top some h room others full None e =
+    let empty = ap (λ plans. length plans) (none_least (λ plan. uses_of cache.anchors plan.number) cache.plans e) in
+    absurd (nothing budget (length cache.plans) some full empty)
+  where
+    nothing : (a b : ℕ) → 1 ≤ a → a ≤ b → b ≡ 0 → ⊥
+    nothing a b x y z = omega arith
+room_by_victim cache q s executions budget top some h room others full (Some gone) e =
+    room_without cache q s executions budget top gone h room others
+    (first_least_has (λ x. length (filter (is_other x.number) cache.plans) < length cache.plans) (λ plan. uses_of cache.anchors plan.number) cache.plans gone (each_shortens cache.plans) e)
+
+room_by : (cache : CacheState) (q : Statement) (s : Statistics) (executions budget : ℕ) (top : TopTree) → 1 ≤ budget → IsFaithfulCache cache q s executions budget → length cache.anchors < ANCHOR_LIMIT → AllByRecursion (λ plan. plan.top ≢ top) cache.plans
+    → (b : Bool) → nat_lt (length cache.plans) budget ≡ b → HasRoom cache (option_map_or (without cache) (cond b None (option_map (λ plan. plan.number) (victim cache))) cache) q s executions budget top
+room_by cache q s executions budget top some h room others true e =
+    record { faithful = h; next = refl; few = ltb-true (length cache.plans) budget e; room = room; others = others }
+room_by cache q s executions budget top some h room others false e =
+    room_by_victim cache q s executions budget top some h room others (ltb-false (length cache.plans) budget e) (victim cache) refl
+
+has_room : (cache : CacheState) (q : Statement) (s : Statistics) (executions budget : ℕ) (top : TopTree) → 1 ≤ budget → IsFaithfulCache cache q s executions budget → length cache.anchors < ANCHOR_LIMIT → AllByRecursion (λ plan. plan.top ≢ top) cache.plans
+    → HasRoom cache (with_room cache budget) q s executions budget top
+has_room cache q s executions budget top some h room others = room_by cache q s executions budget top some h room others (nat_lt (length cache.plans) budget) refl
+
+-- The rule.
+
+or_by : {X : Type 0} (P : X → Type 0) (first second : Option X) (y : X) → ((z : X) → first ≡ Some z → P z) → ((z : X) → second ≡ Some z → P z) → option_or first second ≡ Some y → P y
+or_by P None second y h k e = k y e
+or_by P (Some x) second y h k e = h y e
+
+or_none : {X : Type 0} (first second : Option X) → option_or first second ≡ None → first ≡ None
+or_none None second e = refl
+or_none (Some x) second e = absurd (none-some x (sym e))
+
+-- an older plan is the one of its number
+old_is_numbered : (cache : CacheState) (q : Statement) (s : Statistics) (executions budget : ℕ) (same : TopTree → TopTree → Bool) (top : TopTree) (keep : Fraction) (least : ℕ) (cost : TopTree → ℕ) (plan : CachedPlan) → IsFaithfulCache cache q s executions budget
+    → old_plan same top keep least cost cache.plans ≡ Some plan → top_numbered cache.plans plan.number ≡ Some plan.top
+old_is_numbered cache q s executions budget same top keep least cost plan h e =
+    let each = each_by_number cache.plans (each_two_from (λ a b. a.number < b.number) cache.plans h.numbers_rise) in
+    or_by (λ x. top_numbered cache.plans x.number ≡ Some x.top) (find (λ x. same x.top top) cache.plans) (covering keep least cost cache.plans) plan
+    (λ z k. (found_is (λ x. top_numbered cache.plans x.number ≡ Some x.top) (λ x. same x.top top) cache.plans z each k).0)
+    (λ z k. first_least_has (λ x. top_numbered cache.plans x.number ≡ Some x.top) (λ x. cost x.top) (filter (λ x. covers keep least (cost x.top)) cache.plans) z
+    (each_filter (λ x. top_numbered cache.plans x.number ≡ Some x.top) (λ x. top_numbered cache.plans x.number ≡ Some x.top) (λ x. covers keep least (cost x.top)) (λ x _ f. f) cache.plans each) k) e
+
+-- where there is none, each plan is another tree
+old_is_other : (same : TopTree → TopTree → Bool) (top : TopTree) (keep : Fraction) (least : ℕ) (cost : TopTree → ℕ) (plans : List CachedPlan) → TellsSame same → old_plan same top keep least cost plans ≡ None → AllByRecursion (λ plan. plan.top ≢ top) plans
+old_is_other same top keep least cost plans tells e =
+    each_to (λ plan. same plan.top top ≡ false) (λ plan. plan.top ≢ top) (λ plan f k. false≢true (sym f ∙ (tells plan.top top).1 k)) plans
+    (none_found (λ plan. same plan.top top) plans (or_none (find (λ plan. same plan.top top) plans) (covering keep least cost plans) e))
+
+kept_new : (cache : CacheState) (q : Statement) (s : Statistics) (executions budget : ℕ) (instance : List ℕ) (top : TopTree) (least : ℕ) → ¬ IsWide q s → IsOptimum q s instance top least → HasRoom cache (with_room cache budget) q s executions budget top
+    → IsFaithfulCache (kept_in_room cache (executions + 1) instance (top_cost q s instance) least top budget).cache q s (executions + 1) budget
+kept_new cache q s executions budget instance top least narrow optimum base =
+    faithful_with_new (with_room cache budget) q s executions budget instance top least base.faithful narrow base.room base.few base.others optimum.valid optimum.vector optimum.is_least
+
+kept_old : (cache : CacheState) (q : Statement) (s : Statistics) (executions budget : ℕ) (same : TopTree → TopTree → Bool) (instance : List ℕ) (top : TopTree) (least : ℕ) (keep : Fraction) → TellsSame same → 1 ≤ budget → ¬ IsWide q s → IsOptimum q s instance top least
+    → IsFaithfulCache cache q s executions budget → length cache.anchors < ANCHOR_LIMIT → (found : Option CachedPlan) → old_plan same top keep least (top_cost q s instance) cache.plans ≡ found
+    → IsFaithfulCache (option_map_or (kept_with_old cache (executions + 1) instance (top_cost q s instance) least) found (kept_in_room cache (executions + 1) instance (top_cost q s instance) least top budget)).cache q s (executions + 1) budget
+kept_old cache q s executions budget same instance top least keep tells some narrow optimum h room (Some plan) e =
+    faithful_with_old cache q s executions budget instance plan.number plan.top least h narrow room (old_is_numbered cache q s executions budget same top keep least (top_cost q s instance) plan h e) optimum.vector optimum.is_least
+kept_old cache q s executions budget same instance top least keep tells some narrow optimum h room None e =
+    kept_new cache q s executions budget instance top least narrow optimum (has_room cache q s executions budget top some h room (old_is_other same top keep least (top_cost q s instance) cache.plans tells e))
+
+kept_by : (cache : CacheState) (q : Statement) (s : Statistics) (executions budget : ℕ) (same : TopTree → TopTree → Bool) (instance : List ℕ) (top : TopTree) (least : ℕ) (keep : Fraction) → TellsSame same → 1 ≤ budget → ¬ IsWide q s → IsOptimum q s instance top least
+    → IsFaithfulCache cache q s executions budget → (b : Bool) → nat_lt (length cache.anchors) ANCHOR_LIMIT ≡ b
+    → IsFaithfulCache
+    (cond b (option_map_or (kept_with_old cache (executions + 1) instance (top_cost q s instance) least) (old_plan same top keep least (top_cost q s instance) cache.plans) (kept_in_room cache (executions + 1) instance (top_cost q s instance) least top budget))
+    (record { cache = cache; evicted = None; kept = KeptNothing })).cache q s (executions + 1) budget
+kept_by cache q s executions budget same instance top least keep tells some narrow optimum h true e =
+    kept_old cache q s executions budget same instance top least keep tells some narrow optimum h (ltb-true (length cache.anchors) ANCHOR_LIMIT e) (old_plan same top keep least (top_cost q s instance) cache.plans) refl
+kept_by cache q s executions budget same instance top least keep tells some narrow optimum h false e =
+    faithful_after cache q s executions (executions + 1) budget budget (omega arith) (omega arith) h
+
+pub faithful_kept : (same : TopTree → TopTree → Bool) (cache : CacheState) (q : Statement) (s : Statistics) (executions : ℕ) (instance : List ℕ) (top : TopTree) (least : ℕ) (keep : Fraction) (budget : ℕ) → TellsSame same → 1 ≤ budget → ¬ IsWide q s
+    → IsOptimum q s instance top least → IsFaithfulCache cache q s executions budget → IsFaithfulCache (kept_after same cache q s (executions + 1) instance top least keep budget).cache q s (executions + 1) budget
+faithful_kept same cache q s executions instance top least keep budget tells some narrow optimum h =
+    kept_by cache q s executions budget same instance top least keep tells some narrow optimum h (nat_lt (length cache.anchors) ANCHOR_LIMIT) refl

@@ -1,0 +1,98 @@
+-- What the laws of plan caches say, for all caches, statements and statistics.
+use Rattle.std.specs.Prelude.{ℕ, ◌≡◌, ◌<◌, ◌≤◌, ◌+◌, ◌*◌, min, max, Bool, true, false, IsTrue, ◌↔◌, List, length, slice_index, slice_get, Some}
+use Rattle.fraction_math.specs.Fraction.{Fraction}
+use Rattle.row_values.specs.Statements.{Statement}
+use Rattle.plan_trees.specs.PlanSpace.{IsValidTop}
+use Rattle.plan_trees.specs.Statistics.{Statistics, IsSoundVector}
+use Rattle.plan_trees.specs.Trees.{TopTree}
+use Rattle.cost_model.specs.Checks.{PassesSelectivityCheck, PassesCostCheck}
+use Rattle.cost_model.specs.Costs.{top_cost}
+use Rattle.cost_model.specs.LeastCost.{IsLeastCost}
+use Rattle.cache_model.specs.Caches.{Anchor, CachedPlan, CacheState, cleared, empty_cache, reused, top_numbered, without}
+use Rattle.cache_model.specs.Choices.{choice_of, passes_cost_check, passes_selectivity_check, position_chosen}
+use Rattle.cache_model.specs.Faithful.{IsFaithfulCache, IsWide}
+use Rattle.cache_model.specs.Keeping.{TellsSame, kept_after}
+
+-- The checks as tests say what the checks say.
+
+abbrev pub SelectivityTestLaw : Type 0
+SelectivityTestLaw =
+    (lambda : Fraction) (instance : List ℕ) (anchor : Anchor) → IsTrue (passes_selectivity_check lambda instance anchor)
+    ↔ PassesSelectivityCheck lambda.num lambda.den anchor.plan_cost anchor.least anchor.at instance
+
+abbrev pub CostTestLaw : Type 0
+CostTestLaw =
+    (q : Statement) (s : Statistics) (lambda : Fraction) (instance : List ℕ) (plans : List CachedPlan) (anchor : Anchor) (top : TopTree)
+    → top_numbered plans anchor.plan ≡ Some top → IsTrue (passes_cost_check q s lambda instance plans anchor)
+    ↔ PassesCostCheck lambda.num lambda.den (top_cost q s instance top) anchor.least anchor.at instance
+
+-- Faithful caches.
+
+abbrev pub EmptyIsFaithful : Type 0
+EmptyIsFaithful = (q : Statement) (s : Statistics) (executions budget : ℕ) → IsFaithfulCache empty_cache q s executions budget
+
+-- a cleared cache is faithful to any statistics: so it may be cleared whenever they change
+abbrev pub ClearedIsFaithful : Type 0
+ClearedIsFaithful =
+    (cache : CacheState) (q : Statement) (s : Statistics) (executions budget : ℕ) → IsFaithfulCache (cleared cache) q s executions budget
+
+-- executions of other statements take nothing from it
+abbrev pub FaithfulLater : Type 0
+FaithfulLater =
+    (cache : CacheState) (q : Statement) (s : Statistics) (executions later budget more : ℕ) → executions ≤ later → budget ≤ more
+    → IsFaithfulCache cache q s executions budget → IsFaithfulCache cache q s later more
+
+abbrev pub ReuseLaw : Type 0
+ReuseLaw =
+    (cache : CacheState) (q : Statement) (s : Statistics) (executions budget position : ℕ) → IsFaithfulCache cache q s executions budget
+    → IsFaithfulCache (reused cache position) q s (executions + 1) budget
+
+abbrev pub EvictLaw : Type 0
+EvictLaw =
+    (cache : CacheState) (q : Statement) (s : Statistics) (executions budget number : ℕ) → IsFaithfulCache cache q s executions budget
+    → IsFaithfulCache (without cache number) q s executions budget
+
+-- a valid plan of least cost at a sound vector: what an instance that was optimised comes with
+pub record IsOptimum (q : Statement) (s : Statistics) (instance : List ℕ) (top : TopTree) (least : ℕ) : Type 0 where
+  pub vector : IsSoundVector q s instance
+  pub valid : IsValidTop q s.indexed top
+  pub costs : top_cost q s instance top ≡ least
+  pub is_least : IsLeastCost q s instance least
+
+abbrev pub KeepingLaw : Type 0
+KeepingLaw =
+    (same : TopTree → TopTree → Bool) (cache : CacheState) (q : Statement) (s : Statistics) (executions : ℕ) (instance : List ℕ) (top : TopTree) (least : ℕ) (keep : Fraction) (budget : ℕ)
+    → TellsSame same → 1 ≤ budget → ¬ IsWide q s → IsOptimum q s instance top least → IsFaithfulCache cache q s executions budget
+    → IsFaithfulCache (kept_after same cache q s (executions + 1) instance top least keep budget).cache q s (executions + 1) budget
+
+-- The bound.
+
+-- the anchor at this position has a valid plan, that costs at the instance at most `num / den` times the least
+pub record IsWithinBound (cache : CacheState) (q : Statement) (s : Statistics) (instance : List ℕ) (lambda : Fraction) (position : ℕ) : Type 0 where
+  pub anchor : Anchor
+  pub there : slice_get cache.anchors position ≡ Some anchor
+  pub top : TopTree
+  pub plan : top_numbered cache.plans anchor.plan ≡ Some top
+  pub valid : IsValidTop q s.indexed top
+  pub bound : (least : ℕ) → IsLeastCost q s instance least → top_cost q s instance top * lambda.den ≤ lambda.num * least
+
+-- what a faithful cache lets be used again is within the bound
+abbrev pub ChoiceBoundLaw : Type 0
+ChoiceBoundLaw =
+    (cache : CacheState) (q : Statement) (s : Statistics) (executions budget : ℕ) (instance : List ℕ) (lambda : Fraction) (recosts position : ℕ) → IsFaithfulCache cache q s executions budget
+    → IsSoundVector q s instance → position_chosen (choice_of cache q s instance lambda recosts) ≡ Some position → IsWithinBound cache q s instance lambda position
+
+abbrev pub OneLeastCostLaw : Type 0
+OneLeastCostLaw = (q : Statement) (s : Statistics) (vector : List ℕ) (a b : ℕ) → IsLeastCost q s vector a → IsLeastCost q s vector b → a ≡ b
+
+-- The window: which anchors the selectivity check can let through at all.
+
+-- the first numbers of the two vectors are further apart than the ratio
+abbrev pub IsOutside : Fraction → List ℕ → List ℕ → Type 0
+IsOutside lambda instance at =
+    lambda.num * min (slice_index instance 0) (slice_index at 0) < max (slice_index instance 0) (slice_index at 0) * lambda.den
+
+abbrev pub WindowLaw : Type 0
+WindowLaw =
+    (lambda : Fraction) (instance : List ℕ) (anchor : Anchor) → 1 ≤ lambda.den → lambda.den ≤ lambda.num → 1 ≤ anchor.least → anchor.least ≤ anchor.plan_cost
+    → length instance ≡ length anchor.at → IsOutside lambda instance anchor.at → passes_selectivity_check lambda instance anchor ≡ false

@@ -1,0 +1,57 @@
+//! Laws of plan caches. Their promise is the clause; there is nothing to run.
+ghost use Rattle.cache_model.specs.Laws.{ChoiceBoundLaw, ClearedIsFaithful, CostTestLaw, EmptyIsFaithful, EvictLaw, FaithfulLater, KeepingLaw, OneLeastCostLaw, ReuseLaw, SelectivityTestLaw, WindowLaw};
+
+/// The selectivity check as a test passes exactly where the check does.
+pub fn selectivity_test_tells()
+    ensures { SelectivityTestLaw }
+{}
+
+/// The cost check as a test passes exactly where the check does.
+pub fn cost_test_tells()
+    ensures { CostTestLaw }
+{}
+
+/// The empty cache is faithful.
+pub fn empty_is_faithful()
+    ensures { EmptyIsFaithful }
+{}
+
+/// A cleared cache is faithful, whatever it held and whatever the statistics are now.
+pub fn cleared_is_faithful()
+    ensures { ClearedIsFaithful }
+{}
+
+/// A faithful cache stays faithful as other statements are executed, and under a greater budget.
+pub fn faithful_later()
+    ensures { FaithfulLater }
+{}
+
+/// A reuse keeps a cache faithful.
+pub fn reuse_keeps_faithful()
+    ensures { ReuseLaw }
+{}
+
+/// An eviction keeps a cache faithful.
+pub fn evict_keeps_faithful()
+    ensures { EvictLaw }
+{}
+
+/// Keeping an optimised plan, or its anchor alone, or nothing, keeps a cache faithful.
+pub fn keeping_keeps_faithful()
+    ensures { KeepingLaw }
+{}
+
+/// What a faithful cache lets be used again is valid, and costs at most `num / den` times the least.
+pub fn choice_is_within_bound()
+    ensures { ChoiceBoundLaw }
+{}
+
+/// There is one least cost.
+pub fn one_least_cost()
+    ensures { OneLeastCostLaw }
+{}
+
+/// An anchor whose first selectivity is further from the instance's than the ratio doesn't pass the selectivity check.
+pub fn outside_the_window_fails()
+    ensures { WindowLaw }
+{}
