@@ -1,9 +1,10 @@
 -- The anchor that is chosen is one of the list that passed its check, so its plan is within the bound.
-use Rattle.std.proofs.Common.{ℕ, zero, suc, ◌≡◌, ◌≤◌, ◌<◌, ◌+◌, ◌*◌, Bool, true, false, cond, List, [], ◌∷◌, length, take, slice_get, All, Option, Some, None, if◌then◌else◌, ap, sym, ◌∙◌, refl, subst, arith}
-use Rattle.std.specs.List.{AllByRecursion, find}
+use Rattle.std.proofs.Common.{ℕ, zero, suc, ◌≡◌, ◌≤◌, ◌<◌, ◌+◌, ◌*◌, Bool, true, false, cond, List, [], ◌∷◌, length, take, slice_get, slice_index_or, All, Option, Some, None, if◌then◌else◌, ap, sym, ◌∙◌, refl, subst, arith}
+use Rattle.std.specs.List.{AllByRecursion, position}
 use Rattle.std.specs.Option.{option_map_or}
 use Rattle.std.proofs.lemmas.Bool.{false≢true}
-use Rattle.std.proofs.lemmas.Option.{none-some, same_Some}
+use Rattle.std.proofs.lemmas.List.Quantifiers.{position-Some}
+use Rattle.std.proofs.lemmas.Option.{none-some, same_Some, slice_get-get_or}
 use Rattle.fraction_math.specs.Fraction.{Fraction}
 use Rattle.row_values.specs.Statements.{Statement}
 use Rattle.plan_trees.specs.PlanSpace.{IsValidTop}
@@ -18,7 +19,7 @@ use Rattle.cache_model.specs.Choices.{ByCost, ByOptimum, BySelectivity, Candidat
 use Rattle.cache_model.specs.Faithful.{IsFaithfulAnchor, IsFaithfulCache, IsFaithfulPlan}
 use Rattle.cache_model.specs.Laws.{CostTestLaw, IsWithinBound, SelectivityTestLaw}
 use Rattle.cache_model.proofs.Counts.{counts_some}
-use Rattle.cache_model.proofs.Lists.{each_from, each_take, each_to, found_is}
+use Rattle.cache_model.proofs.Lists.{each_from, each_take, each_to}
 use Rattle.cache_model.proofs.LookUps.{numbered_has}
 
 -- Candidates are anchors of the list.
@@ -122,28 +123,33 @@ each_stands : (cache : CacheState) (q : Statement) (s : Statistics) (executions 
 each_stands cache q s executions budget h =
     each_placed (IsFaithfulAnchor q s cache.plans executions) cache.anchors 0 cache.anchors (λ k. ap (slice_get cache.anchors) (omega arith)) (each_from (IsFaithfulAnchor q s cache.plans executions) cache.anchors h.anchors)
 
-choice_by : SelectivityCheckLaw → CostCheckLaw → SelectivityTestLaw → CostTestLaw → (cache : CacheState) (q : Statement) (s : Statistics) (executions budget : ℕ) (instance : List ℕ) (lambda : Fraction) (recosts position : ℕ) → IsFaithfulCache cache q s executions budget → IsSoundVector q s instance
-    → (found : Option Candidate) → find (λ candidate. passes_selectivity_check lambda instance candidate.anchor) (placed_from 0 cache.anchors) ≡ found
-    → position_chosen (option_map_or (λ candidate. BySelectivity candidate.position) found (choice_among (passes_cost_check q s lambda instance cache.plans) 0 (candidates_of instance recosts cache.anchors))) ≡ Some position
-    → IsWithinBound cache q s instance lambda position
-choice_by selectivity cost tells_selectivity tells_cost cache q s executions budget instance lambda recosts position h sound (Some candidate) e is =
-    let stands = found_is (StandsIn cache.anchors (IsFaithfulAnchor q s cache.plans executions)) (λ candidate. passes_selectivity_check lambda instance candidate.anchor) (placed_from 0 cache.anchors) candidate (each_stands cache q s executions budget h) e in
-    let faithful = stands.0.1 in
-    let valid = valid_there cache q s executions budget candidate.anchor.plan faithful.top h faithful.there in
-    within_bound cache q s executions instance lambda position candidate faithful (same_Some candidate.position position is) stands.0.0 valid
-    (by_selectivity selectivity tells_selectivity q s cache.plans executions instance lambda candidate.anchor faithful sound valid stands.1)
-choice_by selectivity cost tells_selectivity tells_cost cache q s executions budget instance lambda recosts position h sound None e is =
+-- the anchor that a position stands for
+abbrev pub no_anchor : Anchor
+no_anchor = record { execution = 0; at = []; plan = 0; plan_cost = 0; least = 0; uses = 0 }
+
+choice_by : SelectivityCheckLaw → CostCheckLaw → SelectivityTestLaw → CostTestLaw → (cache : CacheState) (q : Statement) (s : Statistics) (executions budget : ℕ) (instance : List ℕ) (lambda : Fraction) (recosts place : ℕ) → IsFaithfulCache cache q s executions budget → IsSoundVector q s instance
+    → (found : Option ℕ) → position (passes_selectivity_check lambda instance) cache.anchors ≡ found
+    → position_chosen (option_map_or BySelectivity found (choice_among (passes_cost_check q s lambda instance cache.plans) 0 (candidates_of instance recosts cache.anchors))) ≡ Some place
+    → IsWithinBound cache q s instance lambda place
+choice_by selectivity cost tells_selectivity tells_cost cache q s executions budget instance lambda recosts place h sound (Some first) e is =
+    let passed = position-Some (passes_selectivity_check lambda instance) cache.anchors first no_anchor e in
+    let anchor = slice_index_or cache.anchors first no_anchor in
+    let faithful : IsFaithfulAnchor q s cache.plans executions anchor = h.anchors first no_anchor passed.0 in
+    let valid = valid_there cache q s executions budget anchor.plan faithful.top h faithful.there in
+    within_bound cache q s executions instance lambda place (record { position = first; anchor = anchor }) faithful (same_Some first place is) (slice_get-get_or cache.anchors first no_anchor passed.0) valid
+    (by_selectivity selectivity tells_selectivity q s cache.plans executions instance lambda anchor faithful sound valid passed.1)
+choice_by selectivity cost tells_selectivity tells_cost cache q s executions budget instance lambda recosts place h sound None e is =
     let among =
-          each_take (StandsIn cache.anchors (IsFaithfulAnchor q s cache.plans executions)) recosts (by_nearness instance (placed_from 0 cache.anchors))
-          (each_in_order (StandsIn cache.anchors (IsFaithfulAnchor q s cache.plans executions)) instance (placed_from 0 cache.anchors) (each_stands cache q s executions budget h)) in
-    let chosen = chosen_among (StandsIn cache.anchors (IsFaithfulAnchor q s cache.plans executions)) (passes_cost_check q s lambda instance cache.plans) 0 (candidates_of instance recosts cache.anchors) position among is in
+    each_take (StandsIn cache.anchors (IsFaithfulAnchor q s cache.plans executions)) recosts (by_nearness instance (placed_from 0 cache.anchors))
+    (each_in_order (StandsIn cache.anchors (IsFaithfulAnchor q s cache.plans executions)) instance (placed_from 0 cache.anchors) (each_stands cache q s executions budget h)) in
+    let chosen = chosen_among (StandsIn cache.anchors (IsFaithfulAnchor q s cache.plans executions)) (passes_cost_check q s lambda instance cache.plans) 0 (candidates_of instance recosts cache.anchors) place among is in
     let faithful = chosen.known.1 in
     let valid = valid_there cache q s executions budget chosen.candidate.anchor.plan faithful.top h faithful.there in
-    within_bound cache q s executions instance lambda position chosen.candidate faithful chosen.placed chosen.known.0 valid
+    within_bound cache q s executions instance lambda place chosen.candidate faithful chosen.placed chosen.known.0 valid
     (by_cost cost tells_cost q s cache.plans executions instance lambda chosen.candidate.anchor faithful sound valid chosen.passed)
 
-pub choice_bounded : SelectivityCheckLaw → CostCheckLaw → SelectivityTestLaw → CostTestLaw → (cache : CacheState) (q : Statement) (s : Statistics) (executions budget : ℕ) (instance : List ℕ) (lambda : Fraction) (recosts position : ℕ) → IsFaithfulCache cache q s executions budget → IsSoundVector q s instance
-    → position_chosen (choice_of cache q s instance lambda recosts) ≡ Some position → IsWithinBound cache q s instance lambda position
-choice_bounded selectivity cost tells_selectivity tells_cost cache q s executions budget instance lambda recosts position h sound is =
-    choice_by selectivity cost tells_selectivity tells_cost cache q s executions budget instance lambda recosts position h sound
-    (find (λ candidate. passes_selectivity_check lambda instance candidate.anchor) (placed_from 0 cache.anchors)) refl is
+pub choice_bounded : SelectivityCheckLaw → CostCheckLaw → SelectivityTestLaw → CostTestLaw → (cache : CacheState) (q : Statement) (s : Statistics) (executions budget : ℕ) (instance : List ℕ) (lambda : Fraction) (recosts place : ℕ) → IsFaithfulCache cache q s executions budget → IsSoundVector q s instance
+    → position_chosen (choice_of cache q s instance lambda recosts) ≡ Some place → IsWithinBound cache q s instance lambda place
+choice_bounded selectivity cost tells_selectivity tells_cost cache q s executions budget instance lambda recosts place h sound is =
+    choice_by selectivity cost tells_selectivity tells_cost cache q s executions budget instance lambda recosts place h sound
+    (position (passes_selectivity_check lambda instance) cache.anchors) refl is

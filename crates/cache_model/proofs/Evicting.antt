@@ -31,13 +31,13 @@ pub faithful_without : (cache : CacheState) (q : Statement) (s : Statistics) (ex
 faithful_without cache q s executions budget gone h =
     record {
       plans =
-        all_from (IsFaithfulPlan q s (filter (is_of_other gone) cache.anchors) cache.next_plan) (filter (is_other gone) cache.plans)
-        (each_filter (IsFaithfulPlan q s cache.anchors cache.next_plan) (IsFaithfulPlan q s (filter (is_of_other gone) cache.anchors) cache.next_plan) (is_other gone) (plan_stays q s cache.anchors cache.next_plan gone) cache.plans
-        (each_from (IsFaithfulPlan q s cache.anchors cache.next_plan) cache.plans h.plans));
+          all_from (IsFaithfulPlan q s (filter (is_of_other gone) cache.anchors) cache.next_plan) (filter (is_other gone) cache.plans)
+          (each_filter (IsFaithfulPlan q s cache.anchors cache.next_plan) (IsFaithfulPlan q s (filter (is_of_other gone) cache.anchors) cache.next_plan) (is_other gone) (plan_stays q s cache.anchors cache.next_plan gone) cache.plans
+          (each_from (IsFaithfulPlan q s cache.anchors cache.next_plan) cache.plans h.plans));
       anchors =
-        all_from (IsFaithfulAnchor q s (filter (is_other gone) cache.plans) executions) (filter (is_of_other gone) cache.anchors)
-        (each_filter (IsFaithfulAnchor q s cache.plans executions) (IsFaithfulAnchor q s (filter (is_other gone) cache.plans) executions) (is_of_other gone) (anchor_stays q s cache.plans executions gone) cache.anchors
-        (each_from (IsFaithfulAnchor q s cache.plans executions) cache.anchors h.anchors));
+          all_from (IsFaithfulAnchor q s (filter (is_other gone) cache.plans) executions) (filter (is_of_other gone) cache.anchors)
+          (each_filter (IsFaithfulAnchor q s cache.plans executions) (IsFaithfulAnchor q s (filter (is_other gone) cache.plans) executions) (is_of_other gone) (anchor_stays q s cache.plans executions gone) cache.anchors
+          (each_from (IsFaithfulAnchor q s cache.plans executions) cache.anchors h.anchors));
       numbers_rise = pairs_stay (λ a b. a.number < b.number) (is_other gone) cache.plans h.numbers_rise;
       executions_rise = pairs_stay (λ a b. a.execution < b.execution) (is_of_other gone) cache.anchors h.executions_rise;
       no_two_same = pairs_stay (λ a b. a.top ≢ b.top) (is_other gone) cache.plans h.no_two_same;

@@ -5,5 +5,6 @@ pub mod Evicting
 pub mod Lists
 pub mod LookUps
 pub mod Reusing
+pub mod SamePlans
 pub mod Saving
 pub mod Tests

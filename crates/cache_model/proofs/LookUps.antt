@@ -69,10 +69,11 @@ behind_first plan plans x h =
 -- where numbers rise, each plan is the one of its number
 pub each_by_number : (plans : List CachedPlan) → EachTwo (λ a b. a.number < b.number) plans → AllByRecursion (λ plan. top_numbered plans plan.number ≡ Some plan.top) plans
 each_by_number [] h = tt
-each_by_number (plan ∷ plans) h =
-    (cond-true (plan.number == plan.number) (Some plan.top) (top_numbered plans plan.number) (eq-eqb plan.number plan.number refl),
-    each_to (λ x. (plan.number < x.number) × (top_numbered plans x.number ≡ Some x.top)) (λ x. top_numbered (plan ∷ plans) x.number ≡ Some x.top) (behind_first plan plans) plans
-    (each_both (λ x. plan.number < x.number) (λ x. top_numbered plans x.number ≡ Some x.top) plans h.0 (each_by_number plans h.1)))
+each_by_number (plan ∷ plans) h = (
+  cond-true (plan.number == plan.number) (Some plan.top) (top_numbered plans plan.number) (eq-eqb plan.number plan.number refl),
+  each_to (λ x. (plan.number < x.number) × (top_numbered plans x.number ≡ Some x.top)) (λ x. top_numbered (plan ∷ plans) x.number ≡ Some x.top) (behind_first plan plans) plans
+      (each_both (λ x. plan.number < x.number) (λ x. top_numbered plans x.number ≡ Some x.top) plans h.0 (each_by_number plans h.1)),
+)
 
 -- Each plan that goes makes the list shorter.
 
@@ -82,10 +83,11 @@ first_gone false plan rest count e h = absurd (false≢true e)
 
 pub each_shortens : (plans : List CachedPlan) → AllByRecursion (λ x. length (filter (is_other x.number) plans) < length plans) plans
 each_shortens [] = tt
-each_shortens (plan ∷ plans) =
-    (first_gone (plan.number == plan.number) plan (filter (is_other plan.number) plans) (length plans) (eq-eqb plan.number plan.number refl) (length-filter (is_other plan.number) plans),
-    each_to (λ x. length (filter (is_other x.number) plans) < length plans) (λ x. length (filter (is_other x.number) (plan ∷ plans)) < length (plan ∷ plans))
-    (λ x less. let more = length_by (is_other x.number plan) plan (filter (is_other x.number) plans) in omega arith) plans (each_shortens plans))
+each_shortens (plan ∷ plans) = (
+  first_gone (plan.number == plan.number) plan (filter (is_other plan.number) plans) (length plans) (eq-eqb plan.number plan.number refl) (length-filter (is_other plan.number) plans),
+  each_to (λ x. length (filter (is_other x.number) plans) < length plans) (λ x. length (filter (is_other x.number) (plan ∷ plans)) < length (plan ∷ plans))
+      (λ x less. let more = length_by (is_other x.number plan) plan (filter (is_other x.number) plans) in omega arith) plans (each_shortens plans),
+)
 
 -- Anchors.
 

@@ -85,9 +85,9 @@ faithful_reused cache q s executions budget position h =
     record {
       plans = λ k d inside. plan_used q s cache.anchors position cache.next_plan _ (h.plans k d inside);
       anchors =
-        all_from (IsFaithfulAnchor q s cache.plans (executions + 1)) (used_at cache.anchors position)
-        (each_used (IsFaithfulAnchor q s cache.plans executions) (IsFaithfulAnchor q s cache.plans (executions + 1)) (anchor_later q s cache.plans executions (executions + 1) (omega arith)) (anchor_used q s cache.plans executions) cache.anchors position
-        (each_from (IsFaithfulAnchor q s cache.plans executions) cache.anchors h.anchors));
+          all_from (IsFaithfulAnchor q s cache.plans (executions + 1)) (used_at cache.anchors position)
+          (each_used (IsFaithfulAnchor q s cache.plans executions) (IsFaithfulAnchor q s cache.plans (executions + 1)) (anchor_later q s cache.plans executions (executions + 1) (omega arith)) (anchor_used q s cache.plans executions) cache.anchors position
+          (each_from (IsFaithfulAnchor q s cache.plans executions) cache.anchors h.anchors));
       numbers_rise = h.numbers_rise;
       executions_rise = pairs_from Rises (used_at cache.anchors position) (rise_used cache.anchors position (each_two_from Rises cache.anchors h.executions_rise));
       no_two_same = h.no_two_same;

@@ -15,12 +15,13 @@ use Rattle.cost_model.specs.Costs.{top_cost}
 use Rattle.cost_model.specs.LeastCost.{IsLeastCost}
 use Rattle.cache_model.specs.Caches.{Anchor, CachedPlan, CacheState, top_numbered, uses_of, with_anchor, with_plan, without}
 use Rattle.cache_model.specs.Faithful.{IsFaithfulAnchor, IsFaithfulCache, IsFaithfulPlan, IsWide}
-use Rattle.cache_model.specs.Keeping.{KeptNothing, TellsSame, covering, covers, evicted_for_room, first_least, kept_after, kept_in_room, kept_with_new, kept_with_old, lesser_by, new_anchor, old_plan, victim, with_room}
+use Rattle.cache_model.specs.Keeping.{KeptNothing, Optimum, added, anchor_of, covering, covers, evicted_for_room, first_least, is_same_plan, kept_after, kept_with_new, kept_with_old, lesser_by, old_plan, victim, with_room}
 use Rattle.cache_model.specs.Laws.{IsOptimum}
 use Rattle.cache_model.specs.declared.limits.TheConstants.{ANCHOR_LIMIT}
 use Rattle.cache_model.proofs.Evicting.{faithful_without}
 use Rattle.cache_model.proofs.Lists.{all_from, each_filter, each_from, each_push, each_to, each_two_from, found_is, length-filter, none_found, pairs_from, two_push}
 use Rattle.cache_model.proofs.LookUps.{anchored_new, anchored_push, each_by_number, each_shortens, is_of_other, is_other, numbered_new, numbered_push}
+use Rattle.cache_model.proofs.SamePlans.{same_if_equal}
 use Rattle.cache_model.proofs.Reusing.{Rises, anchor_later, faithful_after}
 
 -- One more anchor.
@@ -39,36 +40,38 @@ rise_to q s plans executions anchors new e h =
 plan_anchored : (q : Statement) (s : Statistics) (anchors : List Anchor) (new : Anchor) (next : ℕ) (plan : CachedPlan) → IsFaithfulPlan q s anchors next plan → IsFaithfulPlan q s (anchors ++ new ∷ []) next plan
 plan_anchored q s anchors new next plan h = record { valid = h.valid; anchored = anchored_push anchors new plan.number h.anchored; given = h.given }
 
-new_is_faithful : (q : Statement) (s : Statistics) (plans : List CachedPlan) (executions : ℕ) (instance : List ℕ) (number : ℕ) (top : TopTree) (least : ℕ) → top_numbered plans number ≡ Some top → IsSoundVector q s instance → IsLeastCost q s instance least
-    → IsFaithfulAnchor q s plans (executions + 1) (new_anchor (executions + 1) instance number (top_cost q s instance top) least)
-new_is_faithful q s plans executions instance number top least there vector is_least =
+new_is_faithful : (q : Statement) (s : Statistics) (plans : List CachedPlan) (executions : ℕ) (optimum : Optimum) (number : ℕ) (top : TopTree) → top_numbered plans number ≡ Some top → IsOptimum q s optimum → optimum.execution ≡ executions + 1
+    → IsFaithfulAnchor q s plans (executions + 1) (anchor_of optimum number (top_cost q s optimum.at top))
+new_is_faithful q s plans executions optimum number top there is_optimum now =
     record {
-      vector = vector;
+      vector = is_optimum.vector;
       top = top;
       there = there;
       plan_cost = refl;
-      least = is_least;
-      execution = omega arith;
+      least = is_optimum.least;
+      execution = le_if_same optimum.execution (executions + 1) now;
       uses = record { low = omega arith; high = omega arith };
     }
+  where
+    le_if_same : (a b : ℕ) → a ≡ b → a ≤ b
+    le_if_same a b e = omega arith
 
 -- Of an older plan.
 
-faithful_with_old : (cache : CacheState) (q : Statement) (s : Statistics) (executions budget : ℕ) (instance : List ℕ) (number : ℕ) (top : TopTree) (least : ℕ) → IsFaithfulCache cache q s executions budget → ¬ IsWide q s
-    → length cache.anchors < ANCHOR_LIMIT → top_numbered cache.plans number ≡ Some top → IsSoundVector q s instance → IsLeastCost q s instance least
-    → IsFaithfulCache (with_anchor cache (new_anchor (executions + 1) instance number (top_cost q s instance top) least)) q s (executions + 1) budget
-faithful_with_old cache q s executions budget instance number top least h narrow room there vector is_least =
-    let new : Anchor = new_anchor (executions + 1) instance number (top_cost q s instance top) least in
+faithful_with_old : (cache : CacheState) (q : Statement) (s : Statistics) (executions budget : ℕ) (optimum : Optimum) (number : ℕ) (top : TopTree) → IsFaithfulCache cache q s executions budget → ¬ IsWide q s → length cache.anchors < ANCHOR_LIMIT
+    → top_numbered cache.plans number ≡ Some top → IsOptimum q s optimum → optimum.execution ≡ executions + 1 → IsFaithfulCache (with_anchor cache (anchor_of optimum number (top_cost q s optimum.at top))) q s (executions + 1) budget
+faithful_with_old cache q s executions budget optimum number top h narrow room there is_optimum now =
+    let new : Anchor = anchor_of optimum number (top_cost q s optimum.at top) in
     let each = each_from (IsFaithfulAnchor q s cache.plans executions) cache.anchors h.anchors in
     record {
       plans = λ k d inside. plan_anchored q s cache.anchors new cache.next_plan _ (h.plans k d inside);
       anchors =
-        all_from (IsFaithfulAnchor q s cache.plans (executions + 1)) (cache.anchors ++ new ∷ [])
-        (each_push (IsFaithfulAnchor q s cache.plans (executions + 1)) cache.anchors new
-        (each_to (IsFaithfulAnchor q s cache.plans executions) (IsFaithfulAnchor q s cache.plans (executions + 1)) (anchor_later q s cache.plans executions (executions + 1) (omega arith)) cache.anchors each)
-        (new_is_faithful q s cache.plans executions instance number top least there vector is_least));
+          all_from (IsFaithfulAnchor q s cache.plans (executions + 1)) (cache.anchors ++ new ∷ [])
+          (each_push (IsFaithfulAnchor q s cache.plans (executions + 1)) cache.anchors new
+          (each_to (IsFaithfulAnchor q s cache.plans executions) (IsFaithfulAnchor q s cache.plans (executions + 1)) (anchor_later q s cache.plans executions (executions + 1) (omega arith)) cache.anchors each)
+          (new_is_faithful q s cache.plans executions optimum number top there is_optimum now));
       numbers_rise = h.numbers_rise;
-      executions_rise = pairs_from Rises (cache.anchors ++ new ∷ []) (two_push Rises cache.anchors new (each_two_from Rises cache.anchors h.executions_rise) (rise_to q s cache.plans executions cache.anchors new refl each));
+      executions_rise = pairs_from Rises (cache.anchors ++ new ∷ []) (two_push Rises cache.anchors new (each_two_from Rises cache.anchors h.executions_rise) (rise_to q s cache.plans executions cache.anchors new now each));
       no_two_same = h.no_two_same;
       few_plans = h.few_plans;
       few_anchors = one_longer cache.anchors new ANCHOR_LIMIT room;
@@ -94,29 +97,28 @@ anchor_numbered q s plans new executions anchor h =
       uses = h.uses;
     }
 
-faithful_with_new : (cache : CacheState) (q : Statement) (s : Statistics) (executions budget : ℕ) (instance : List ℕ) (top : TopTree) (least : ℕ) → IsFaithfulCache cache q s executions budget → ¬ IsWide q s
-    → length cache.anchors < ANCHOR_LIMIT → length cache.plans < budget → AllByRecursion (λ plan. plan.top ≢ top) cache.plans → IsValidTop q s.indexed top → IsSoundVector q s instance → IsLeastCost q s instance least
-    → IsFaithfulCache (kept_with_new cache (executions + 1) instance (top_cost q s instance) least top) q s (executions + 1) budget
-faithful_with_new cache q s executions budget instance top least h narrow room few others valid vector is_least =
-    let plan : CachedPlan = record { number = cache.next_plan; top = top } in
-    let new : Anchor = new_anchor (executions + 1) instance cache.next_plan (top_cost q s instance top) least in
+faithful_with_new : (cache : CacheState) (q : Statement) (s : Statistics) (executions budget : ℕ) (optimum : Optimum) → IsFaithfulCache cache q s executions budget → ¬ IsWide q s → length cache.anchors < ANCHOR_LIMIT → length cache.plans < budget
+    → AllByRecursion (λ plan. plan.top ≢ optimum.top) cache.plans → IsOptimum q s optimum → optimum.execution ≡ executions + 1 → IsFaithfulCache (added cache optimum (top_cost q s optimum.at)) q s (executions + 1) budget
+faithful_with_new cache q s executions budget optimum h narrow room few others is_optimum now =
+    let plan : CachedPlan = record { number = cache.next_plan; top = optimum.top } in
+    let new : Anchor = anchor_of optimum cache.next_plan (top_cost q s optimum.at optimum.top) in
     let each = each_from (IsFaithfulAnchor q s cache.plans executions) cache.anchors h.anchors in
     let plans = each_from (IsFaithfulPlan q s cache.anchors cache.next_plan) cache.plans h.plans in
     let below = each_to (IsFaithfulPlan q s cache.anchors cache.next_plan) (λ x. x.number < cache.next_plan) (λ x k. k.given) cache.plans plans in
     record {
       plans =
-        all_from (IsFaithfulPlan q s (cache.anchors ++ new ∷ []) (cache.next_plan + 1)) (cache.plans ++ plan ∷ [])
-        (each_push (IsFaithfulPlan q s (cache.anchors ++ new ∷ []) (cache.next_plan + 1)) cache.plans plan
-        (each_to (IsFaithfulPlan q s cache.anchors cache.next_plan) (IsFaithfulPlan q s (cache.anchors ++ new ∷ []) (cache.next_plan + 1)) (plan_numbered q s cache.anchors new cache.next_plan) cache.plans plans)
-        (record { valid = valid; anchored = anchored_new cache.anchors new cache.next_plan refl; given = omega arith }));
+          all_from (IsFaithfulPlan q s (cache.anchors ++ new ∷ []) (cache.next_plan + 1)) (cache.plans ++ plan ∷ [])
+          (each_push (IsFaithfulPlan q s (cache.anchors ++ new ∷ []) (cache.next_plan + 1)) cache.plans plan
+          (each_to (IsFaithfulPlan q s cache.anchors cache.next_plan) (IsFaithfulPlan q s (cache.anchors ++ new ∷ []) (cache.next_plan + 1)) (plan_numbered q s cache.anchors new cache.next_plan) cache.plans plans)
+          (record { valid = is_optimum.valid; anchored = anchored_new cache.anchors new cache.next_plan refl; given = omega arith }));
       anchors =
-        all_from (IsFaithfulAnchor q s (cache.plans ++ plan ∷ []) (executions + 1)) (cache.anchors ++ new ∷ [])
-        (each_push (IsFaithfulAnchor q s (cache.plans ++ plan ∷ []) (executions + 1)) cache.anchors new
-        (each_to (IsFaithfulAnchor q s cache.plans executions) (IsFaithfulAnchor q s (cache.plans ++ plan ∷ []) (executions + 1))
-        (λ anchor k. anchor_numbered q s cache.plans plan (executions + 1) anchor (anchor_later q s cache.plans executions (executions + 1) (omega arith) anchor k)) cache.anchors each)
-        (new_is_faithful q s (cache.plans ++ plan ∷ []) executions instance cache.next_plan top least (numbered_new cache.plans cache.next_plan top below) vector is_least));
+          all_from (IsFaithfulAnchor q s (cache.plans ++ plan ∷ []) (executions + 1)) (cache.anchors ++ new ∷ [])
+          (each_push (IsFaithfulAnchor q s (cache.plans ++ plan ∷ []) (executions + 1)) cache.anchors new
+          (each_to (IsFaithfulAnchor q s cache.plans executions) (IsFaithfulAnchor q s (cache.plans ++ plan ∷ []) (executions + 1))
+          (λ anchor k. anchor_numbered q s cache.plans plan (executions + 1) anchor (anchor_later q s cache.plans executions (executions + 1) (omega arith) anchor k)) cache.anchors each)
+          (new_is_faithful q s (cache.plans ++ plan ∷ []) executions optimum cache.next_plan optimum.top (numbered_new cache.plans cache.next_plan optimum.top below) is_optimum now));
       numbers_rise = pairs_from (λ a b. a.number < b.number) (cache.plans ++ plan ∷ []) (two_push (λ a b. a.number < b.number) cache.plans plan (each_two_from (λ a b. a.number < b.number) cache.plans h.numbers_rise) below);
-      executions_rise = pairs_from Rises (cache.anchors ++ new ∷ []) (two_push Rises cache.anchors new (each_two_from Rises cache.anchors h.executions_rise) (rise_to q s cache.plans executions cache.anchors new refl each));
+      executions_rise = pairs_from Rises (cache.anchors ++ new ∷ []) (two_push Rises cache.anchors new (each_two_from Rises cache.anchors h.executions_rise) (rise_to q s cache.plans executions cache.anchors new now each));
       no_two_same = pairs_from (λ a b. a.top ≢ b.top) (cache.plans ++ plan ∷ []) (two_push (λ a b. a.top ≢ b.top) cache.plans plan (each_two_from (λ a b. a.top ≢ b.top) cache.plans h.no_two_same) others);
       few_plans = one_longer cache.plans plan budget few;
       few_anchors = one_longer cache.anchors new ANCHOR_LIMIT room;
@@ -200,45 +202,45 @@ or_none None second e = refl
 or_none (Some x) second e = absurd (none-some x (sym e))
 
 -- an older plan is the one of its number
-old_is_numbered : (cache : CacheState) (q : Statement) (s : Statistics) (executions budget : ℕ) (same : TopTree → TopTree → Bool) (top : TopTree) (keep : Fraction) (least : ℕ) (cost : TopTree → ℕ) (plan : CachedPlan) → IsFaithfulCache cache q s executions budget
-    → old_plan same top keep least cost cache.plans ≡ Some plan → top_numbered cache.plans plan.number ≡ Some plan.top
-old_is_numbered cache q s executions budget same top keep least cost plan h e =
+old_is_numbered : (cache : CacheState) (q : Statement) (s : Statistics) (executions budget : ℕ) (optimum : Optimum) (keep : Fraction) (cost : TopTree → ℕ) (plan : CachedPlan) → IsFaithfulCache cache q s executions budget
+    → old_plan q optimum keep cost cache.plans ≡ Some plan → top_numbered cache.plans plan.number ≡ Some plan.top
+old_is_numbered cache q s executions budget optimum keep cost plan h e =
     let each = each_by_number cache.plans (each_two_from (λ a b. a.number < b.number) cache.plans h.numbers_rise) in
-    or_by (λ x. top_numbered cache.plans x.number ≡ Some x.top) (find (λ x. same x.top top) cache.plans) (covering keep least cost cache.plans) plan
-    (λ z k. (found_is (λ x. top_numbered cache.plans x.number ≡ Some x.top) (λ x. same x.top top) cache.plans z each k).0)
-    (λ z k. first_least_has (λ x. top_numbered cache.plans x.number ≡ Some x.top) (λ x. cost x.top) (filter (λ x. covers keep least (cost x.top)) cache.plans) z
-    (each_filter (λ x. top_numbered cache.plans x.number ≡ Some x.top) (λ x. top_numbered cache.plans x.number ≡ Some x.top) (λ x. covers keep least (cost x.top)) (λ x _ f. f) cache.plans each) k) e
+    or_by (λ x. top_numbered cache.plans x.number ≡ Some x.top) (find (λ x. is_same_plan q x.top optimum.top) cache.plans) (covering keep optimum.least cost cache.plans) plan
+    (λ z k. (found_is (λ x. top_numbered cache.plans x.number ≡ Some x.top) (λ x. is_same_plan q x.top optimum.top) cache.plans z each k).0)
+    (λ z k. first_least_has (λ x. top_numbered cache.plans x.number ≡ Some x.top) (λ x. cost x.top) (filter (λ x. covers keep optimum.least (cost x.top)) cache.plans) z
+    (each_filter (λ x. top_numbered cache.plans x.number ≡ Some x.top) (λ x. top_numbered cache.plans x.number ≡ Some x.top) (λ x. covers keep optimum.least (cost x.top)) (λ x _ f. f) cache.plans each) k) e
 
 -- where there is none, each plan is another tree
-old_is_other : (same : TopTree → TopTree → Bool) (top : TopTree) (keep : Fraction) (least : ℕ) (cost : TopTree → ℕ) (plans : List CachedPlan) → TellsSame same → old_plan same top keep least cost plans ≡ None → AllByRecursion (λ plan. plan.top ≢ top) plans
-old_is_other same top keep least cost plans tells e =
-    each_to (λ plan. same plan.top top ≡ false) (λ plan. plan.top ≢ top) (λ plan f k. false≢true (sym f ∙ (tells plan.top top).1 k)) plans
-    (none_found (λ plan. same plan.top top) plans (or_none (find (λ plan. same plan.top top) plans) (covering keep least cost plans) e))
+old_is_other : (q : Statement) (optimum : Optimum) (keep : Fraction) (cost : TopTree → ℕ) (plans : List CachedPlan) → old_plan q optimum keep cost plans ≡ None → AllByRecursion (λ plan. plan.top ≢ optimum.top) plans
+old_is_other q optimum keep cost plans e =
+    each_to (λ plan. is_same_plan q plan.top optimum.top ≡ false) (λ plan. plan.top ≢ optimum.top) (λ plan f k. false≢true (sym f ∙ same_if_equal q plan.top optimum.top k)) plans
+    (none_found (λ plan. is_same_plan q plan.top optimum.top) plans (or_none (find (λ plan. is_same_plan q plan.top optimum.top) plans) (covering keep optimum.least cost plans) e))
 
-kept_new : (cache : CacheState) (q : Statement) (s : Statistics) (executions budget : ℕ) (instance : List ℕ) (top : TopTree) (least : ℕ) → ¬ IsWide q s → IsOptimum q s instance top least → HasRoom cache (with_room cache budget) q s executions budget top
-    → IsFaithfulCache (kept_in_room cache (executions + 1) instance (top_cost q s instance) least top budget).cache q s (executions + 1) budget
-kept_new cache q s executions budget instance top least narrow optimum base =
-    faithful_with_new (with_room cache budget) q s executions budget instance top least base.faithful narrow base.room base.few base.others optimum.valid optimum.vector optimum.is_least
+kept_new : (cache : CacheState) (q : Statement) (s : Statistics) (executions budget : ℕ) (optimum : Optimum) → ¬ IsWide q s → IsOptimum q s optimum → optimum.execution ≡ executions + 1 → HasRoom cache (with_room cache budget) q s executions budget optimum.top
+    → IsFaithfulCache (kept_with_new cache optimum (top_cost q s optimum.at) budget).cache q s (executions + 1) budget
+kept_new cache q s executions budget optimum narrow is_optimum now base =
+    faithful_with_new (with_room cache budget) q s executions budget optimum base.faithful narrow base.room base.few base.others is_optimum now
 
-kept_old : (cache : CacheState) (q : Statement) (s : Statistics) (executions budget : ℕ) (same : TopTree → TopTree → Bool) (instance : List ℕ) (top : TopTree) (least : ℕ) (keep : Fraction) → TellsSame same → 1 ≤ budget → ¬ IsWide q s → IsOptimum q s instance top least
-    → IsFaithfulCache cache q s executions budget → length cache.anchors < ANCHOR_LIMIT → (found : Option CachedPlan) → old_plan same top keep least (top_cost q s instance) cache.plans ≡ found
-    → IsFaithfulCache (option_map_or (kept_with_old cache (executions + 1) instance (top_cost q s instance) least) found (kept_in_room cache (executions + 1) instance (top_cost q s instance) least top budget)).cache q s (executions + 1) budget
-kept_old cache q s executions budget same instance top least keep tells some narrow optimum h room (Some plan) e =
-    faithful_with_old cache q s executions budget instance plan.number plan.top least h narrow room (old_is_numbered cache q s executions budget same top keep least (top_cost q s instance) plan h e) optimum.vector optimum.is_least
-kept_old cache q s executions budget same instance top least keep tells some narrow optimum h room None e =
-    kept_new cache q s executions budget instance top least narrow optimum (has_room cache q s executions budget top some h room (old_is_other same top keep least (top_cost q s instance) cache.plans tells e))
+kept_old : (cache : CacheState) (q : Statement) (s : Statistics) (executions budget : ℕ) (optimum : Optimum) (keep : Fraction) → 1 ≤ budget → ¬ IsWide q s → IsOptimum q s optimum → optimum.execution ≡ executions + 1
+    → IsFaithfulCache cache q s executions budget → length cache.anchors < ANCHOR_LIMIT → (found : Option CachedPlan) → old_plan q optimum keep (top_cost q s optimum.at) cache.plans ≡ found
+    → IsFaithfulCache (option_map_or (kept_with_old cache optimum (top_cost q s optimum.at)) found (kept_with_new cache optimum (top_cost q s optimum.at) budget)).cache q s (executions + 1) budget
+kept_old cache q s executions budget optimum keep some narrow is_optimum now h room (Some plan) e =
+    faithful_with_old cache q s executions budget optimum plan.number plan.top h narrow room (old_is_numbered cache q s executions budget optimum keep (top_cost q s optimum.at) plan h e) is_optimum now
+kept_old cache q s executions budget optimum keep some narrow is_optimum now h room None e =
+    kept_new cache q s executions budget optimum narrow is_optimum now (has_room cache q s executions budget optimum.top some h room (old_is_other q optimum keep (top_cost q s optimum.at) cache.plans e))
 
-kept_by : (cache : CacheState) (q : Statement) (s : Statistics) (executions budget : ℕ) (same : TopTree → TopTree → Bool) (instance : List ℕ) (top : TopTree) (least : ℕ) (keep : Fraction) → TellsSame same → 1 ≤ budget → ¬ IsWide q s → IsOptimum q s instance top least
+kept_by : (cache : CacheState) (q : Statement) (s : Statistics) (executions budget : ℕ) (optimum : Optimum) (keep : Fraction) → 1 ≤ budget → ¬ IsWide q s → IsOptimum q s optimum → optimum.execution ≡ executions + 1
     → IsFaithfulCache cache q s executions budget → (b : Bool) → nat_lt (length cache.anchors) ANCHOR_LIMIT ≡ b
     → IsFaithfulCache
-    (cond b (option_map_or (kept_with_old cache (executions + 1) instance (top_cost q s instance) least) (old_plan same top keep least (top_cost q s instance) cache.plans) (kept_in_room cache (executions + 1) instance (top_cost q s instance) least top budget))
+    (cond b (option_map_or (kept_with_old cache optimum (top_cost q s optimum.at)) (old_plan q optimum keep (top_cost q s optimum.at) cache.plans) (kept_with_new cache optimum (top_cost q s optimum.at) budget))
     (record { cache = cache; evicted = None; kept = KeptNothing })).cache q s (executions + 1) budget
-kept_by cache q s executions budget same instance top least keep tells some narrow optimum h true e =
-    kept_old cache q s executions budget same instance top least keep tells some narrow optimum h (ltb-true (length cache.anchors) ANCHOR_LIMIT e) (old_plan same top keep least (top_cost q s instance) cache.plans) refl
-kept_by cache q s executions budget same instance top least keep tells some narrow optimum h false e =
+kept_by cache q s executions budget optimum keep some narrow is_optimum now h true e =
+    kept_old cache q s executions budget optimum keep some narrow is_optimum now h (ltb-true (length cache.anchors) ANCHOR_LIMIT e) (old_plan q optimum keep (top_cost q s optimum.at) cache.plans) refl
+kept_by cache q s executions budget optimum keep some narrow is_optimum now h false e =
     faithful_after cache q s executions (executions + 1) budget budget (omega arith) (omega arith) h
 
-pub faithful_kept : (same : TopTree → TopTree → Bool) (cache : CacheState) (q : Statement) (s : Statistics) (executions : ℕ) (instance : List ℕ) (top : TopTree) (least : ℕ) (keep : Fraction) (budget : ℕ) → TellsSame same → 1 ≤ budget → ¬ IsWide q s
-    → IsOptimum q s instance top least → IsFaithfulCache cache q s executions budget → IsFaithfulCache (kept_after same cache q s (executions + 1) instance top least keep budget).cache q s (executions + 1) budget
-faithful_kept same cache q s executions instance top least keep budget tells some narrow optimum h =
-    kept_by cache q s executions budget same instance top least keep tells some narrow optimum h (nat_lt (length cache.anchors) ANCHOR_LIMIT) refl
+pub faithful_kept : (cache : CacheState) (q : Statement) (s : Statistics) (executions : ℕ) (optimum : Optimum) (keep : Fraction) (budget : ℕ) → 1 ≤ budget → ¬ IsWide q s → IsOptimum q s optimum → optimum.execution ≡ executions + 1
+    → IsFaithfulCache cache q s executions budget → IsFaithfulCache (kept_after cache q s optimum keep budget).cache q s (executions + 1) budget
+faithful_kept cache q s executions optimum keep budget some narrow is_optimum now h =
+    kept_by cache q s executions budget optimum keep some narrow is_optimum now h (nat_lt (length cache.anchors) ANCHOR_LIMIT) refl

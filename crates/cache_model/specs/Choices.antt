@@ -1,5 +1,5 @@
 -- The choice for an instance: an anchor's plan that one of the two checks lets through, or a plan of its own.
-use Rattle.std.specs.Prelude.{ℕ, ◌+◌, ◌*◌, ◌^◌, nat_lt, nat_le, min, max, Bool, false, ◌&&◌, List, [], ◌∷◌, length, take, find, Option, Some, None, if◌then◌else◌}
+use Rattle.std.specs.Prelude.{ℕ, ◌+◌, ◌*◌, ◌^◌, nat_lt, nat_le, min, max, Bool, false, ◌&&◌, List, [], ◌∷◌, take, position, Option, Some, None, if◌then◌else◌}
 use Rattle.std.specs.Option.{option_map_or}
 use Rattle.fraction_math.specs.Fraction.{Fraction}
 use Rattle.cost_polynomials.specs.Growth.{grown_to, grown_from, shrunk_to, shrunk_from}
@@ -92,7 +92,7 @@ choice_among passes tried (candidate ∷ candidates) =
 -- many as are costed; else none
 abbrev pub choice_of : CacheState → Statement → Statistics → List ℕ → Fraction → ℕ → Choice
 choice_of cache q s instance lambda recosts =
-    option_map_or (λ candidate. BySelectivity candidate.position) (find (λ candidate. passes_selectivity_check lambda instance candidate.anchor) (placed_from 0 cache.anchors))
+    option_map_or BySelectivity (position (passes_selectivity_check lambda instance) cache.anchors)
     (choice_among (passes_cost_check q s lambda instance cache.plans) 0 (candidates_of instance recosts cache.anchors))
 
 -- where the anchor stands whose plan is used again

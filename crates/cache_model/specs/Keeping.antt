@@ -1,8 +1,10 @@
 -- What is kept of an instance that was optimised: an anchor, and its plan unless an older one does as well.
-use Rattle.std.specs.Prelude.{ℕ, ◌*◌, nat_lt, Bool, IsTrue, ◌≡◌, ◌↔◌, List, [], ◌∷◌, length, filter, find, Option, Some, None, if◌then◌else◌}
+use Rattle.std.specs.Prelude.{ℕ, ◌*◌, nat_lt, Bool, List, [], ◌∷◌, length, filter, find, Option, Some, None, if◌then◌else◌}
 use Rattle.std.specs.Option.{option_map, option_map_or, option_or}
+use Rattle.std.specs.Str.{bytes_eq}
 use Rattle.fraction_math.specs.Fraction.{Fraction}
 use Rattle.row_values.specs.Statements.{Statement}
+use Rattle.plan_trees.specs.Spelling.{top_text}
 use Rattle.plan_trees.specs.Statistics.{Statistics}
 use Rattle.plan_trees.specs.Trees.{TopTree}
 use Rattle.cost_model.specs.Costs.{top_cost}
@@ -10,9 +12,12 @@ use Rattle.cache_model.specs.Caches.{Anchor, CachedPlan, CacheState, anchors_of,
 use Rattle.cache_model.specs.Choices.{is_at_most_in_128}
 use Rattle.cache_model.specs.declared.limits.TheConstants.{ANCHOR_LIMIT}
 
--- a test that tells whether two are the same tree
-abbrev pub TellsSame : (TopTree → TopTree → Bool) → Type 0
-TellsSame same = (a b : TopTree) → IsTrue (same a b) ↔ (a ≡ b)
+-- an instance that was optimised: which execution it was, its vector, its plan and the least cost
+pub record Optimum : Type 0 where
+  pub execution : ℕ
+  pub at : List ℕ
+  pub top : TopTree
+  pub least : ℕ
 
 -- the lesser by this number, and the first where they are as great
 abbrev pub lesser_by : {X : Type 0} → (X → ℕ) → X → Option X → X
@@ -26,6 +31,10 @@ first_least number (x ∷ xs) = Some (lesser_by number x (first_least number xs)
 
 -- Redundant plans.
 
+-- spelled alike: of valid plans this is the same tree
+unfoldable pub is_same_plan : Statement → TopTree → TopTree → Bool
+is_same_plan q a b = bytes_eq (top_text q.places a) (top_text q.places b)
+
 -- a plan of this cost is within the ratio of the least cost
 abbrev pub covers : Fraction → ℕ → ℕ → Bool
 covers keep least cost = is_at_most_in_128 (cost * keep.den) (keep.num * least)
@@ -35,8 +44,8 @@ abbrev pub covering : Fraction → ℕ → (TopTree → ℕ) → List CachedPlan
 covering keep least cost plans = first_least (λ plan. cost plan.top) (filter (λ plan. covers keep least (cost plan.top)) plans)
 
 -- the plan that is there already and serves: the same, else one that covers
-abbrev pub old_plan : (TopTree → TopTree → Bool) → TopTree → Fraction → ℕ → (TopTree → ℕ) → List CachedPlan → Option CachedPlan
-old_plan same top keep least cost plans = option_or (find (λ plan. same plan.top top) plans) (covering keep least cost plans)
+abbrev pub old_plan : Statement → Optimum → Fraction → (TopTree → ℕ) → List CachedPlan → Option CachedPlan
+old_plan q optimum keep cost plans = option_or (find (λ plan. is_same_plan q plan.top optimum.top) plans) (covering keep optimum.least cost plans)
 
 -- Room for a plan.
 
@@ -58,52 +67,49 @@ pub record Eviction : Type 0 where
   pub plan : ℕ
   pub anchors : ℕ
 
--- what was kept: the plan under a new number, an anchor of an old plan, or nothing
-pub data Kept : Type 0 where
-  KeptNew : (number : ℕ) → Kept
-  KeptOld : (number : ℕ) → Kept
-  KeptNothing : Kept
+-- what was kept: an anchor with the plan under a new number, an anchor of an old plan, or nothing
+pub data KeptNote : Type 0 where
+  KeptNew : (number : ℕ) → KeptNote
+  KeptOld : (number : ℕ) → KeptNote
+  KeptNothing : KeptNote
 
 -- the cache afterwards, and what is told of it
 pub record Keeping : Type 0 where
   pub cache : CacheState
   pub evicted : Option Eviction
-  pub kept : Kept
+  pub kept : KeptNote
 
--- the anchor of an instance just optimised, that gets the plan of this number and cost
-abbrev pub new_anchor : ℕ → List ℕ → ℕ → ℕ → ℕ → Anchor
-new_anchor execution instance number cost least =
-    record { execution = execution; at = instance; plan = number; plan_cost = cost; least = least; uses = 1 }
+-- the anchor of an optimum that gets the plan of this number, of this cost at its vector
+abbrev pub anchor_of : Optimum → ℕ → ℕ → Anchor
+anchor_of optimum number cost =
+    record { execution = optimum.execution; at = optimum.at; plan = number; plan_cost = cost; least = optimum.least; uses = 1 }
 
 -- the anchor gets a plan that is there
-abbrev pub kept_with_old : CacheState → ℕ → List ℕ → (TopTree → ℕ) → ℕ → CachedPlan → Keeping
-kept_with_old cache execution instance cost least plan = record {
-  cache = with_anchor cache (new_anchor execution instance plan.number (cost plan.top) least);
+abbrev pub kept_with_old : CacheState → Optimum → (TopTree → ℕ) → CachedPlan → Keeping
+kept_with_old cache optimum cost plan = record {
+  cache = with_anchor cache (anchor_of optimum plan.number (cost plan.top));
   evicted = None;
   kept = KeptOld plan.number;
 }
 
 -- the anchor gets its own plan, for which there is room
-abbrev pub kept_with_new : CacheState → ℕ → List ℕ → (TopTree → ℕ) → ℕ → TopTree → CacheState
-kept_with_new cache execution instance cost least top =
-    with_anchor (with_plan cache top) (new_anchor execution instance cache.next_plan (cost top) least)
+abbrev pub added : CacheState → Optimum → (TopTree → ℕ) → CacheState
+added cache optimum cost = with_anchor (with_plan cache optimum.top) (anchor_of optimum cache.next_plan (cost optimum.top))
 
-abbrev pub kept_in_room : CacheState → ℕ → List ℕ → (TopTree → ℕ) → ℕ → TopTree → ℕ → Keeping
-kept_in_room cache execution instance cost least top budget = record {
-  cache = kept_with_new (with_room cache budget) execution instance cost least top;
+abbrev pub kept_with_new : CacheState → Optimum → (TopTree → ℕ) → ℕ → Keeping
+kept_with_new cache optimum cost budget = record {
+  cache = added (with_room cache budget) optimum cost;
   evicted = option_map (λ number. record { plan = number; anchors = length (anchors_of cache.anchors number) }) (evicted_for_room cache budget);
   kept = KeptNew cache.next_plan;
 }
 
--- the same where plans cost so much at the instance
-abbrev pub kept_at_costs : (TopTree → TopTree → Bool) → CacheState → ℕ → List ℕ → (TopTree → ℕ) → TopTree → ℕ → Fraction → ℕ → Keeping
-kept_at_costs same cache execution instance cost top least keep budget =
+-- what is kept where plans cost so much at the optimum's vector: nothing in a full cache; else an anchor with an old plan
+-- that serves, or with the optimum's own
+abbrev pub kept_at : CacheState → Statement → Optimum → (TopTree → ℕ) → Fraction → ℕ → Keeping
+kept_at cache q optimum cost keep budget =
     if nat_lt (length cache.anchors) ANCHOR_LIMIT
-    then option_map_or (kept_with_old cache execution instance cost least) (old_plan same top keep least cost cache.plans)
-    (kept_in_room cache execution instance cost least top budget)
+    then option_map_or (kept_with_old cache optimum cost) (old_plan q optimum keep cost cache.plans) (kept_with_new cache optimum cost budget)
     else record { cache = cache; evicted = None; kept = KeptNothing }
 
--- after this execution's instance was optimised: its plan and the least cost
-abbrev pub kept_after : (TopTree → TopTree → Bool) → CacheState → Statement → Statistics → ℕ → List ℕ → TopTree → ℕ → Fraction → ℕ → Keeping
-kept_after same cache q s execution instance top least keep budget =
-    kept_at_costs same cache execution instance (top_cost q s instance) top least keep budget
+abbrev pub kept_after : CacheState → Statement → Statistics → Optimum → Fraction → ℕ → Keeping
+kept_after cache q s optimum keep budget = kept_at cache q optimum (top_cost q s optimum.at) keep budget

@@ -1,7 +1,8 @@
 -- What the laws of plan caches say, for all caches, statements and statistics.
-use Rattle.std.specs.Prelude.{ℕ, ◌≡◌, ◌<◌, ◌≤◌, ◌+◌, ◌*◌, min, max, Bool, true, false, IsTrue, ◌↔◌, List, length, slice_index, slice_get, Some}
+use Rattle.std.specs.Prelude.{ℕ, ◌≡◌, ◌<◌, ◌≤◌, ◌+◌, ◌*◌, min, max, Bool, true, false, IsTrue, ◌↔◌, List, length, All, slice_index, slice_get, Some}
 use Rattle.fraction_math.specs.Fraction.{Fraction}
-use Rattle.row_values.specs.Statements.{Statement}
+use Rattle.row_values.specs.Columns.{IsSchema}
+use Rattle.row_values.specs.Statements.{Statement, IsSoundQuery}
 use Rattle.plan_trees.specs.PlanSpace.{IsValidTop}
 use Rattle.plan_trees.specs.Statistics.{Statistics, IsSoundVector}
 use Rattle.plan_trees.specs.Trees.{TopTree}
@@ -11,7 +12,7 @@ use Rattle.cost_model.specs.LeastCost.{IsLeastCost}
 use Rattle.cache_model.specs.Caches.{Anchor, CachedPlan, CacheState, cleared, empty_cache, reused, top_numbered, without}
 use Rattle.cache_model.specs.Choices.{choice_of, passes_cost_check, passes_selectivity_check, position_chosen}
 use Rattle.cache_model.specs.Faithful.{IsFaithfulCache, IsWide}
-use Rattle.cache_model.specs.Keeping.{TellsSame, kept_after}
+use Rattle.cache_model.specs.Keeping.{Optimum, is_same_plan, kept_after}
 
 -- The checks as tests say what the checks say.
 
@@ -52,18 +53,23 @@ EvictLaw =
     (cache : CacheState) (q : Statement) (s : Statistics) (executions budget number : ℕ) → IsFaithfulCache cache q s executions budget
     → IsFaithfulCache (without cache number) q s executions budget
 
--- a valid plan of least cost at a sound vector: what an instance that was optimised comes with
-pub record IsOptimum (q : Statement) (s : Statistics) (instance : List ℕ) (top : TopTree) (least : ℕ) : Type 0 where
-  pub vector : IsSoundVector q s instance
-  pub valid : IsValidTop q s.indexed top
-  pub costs : top_cost q s instance top ≡ least
-  pub is_least : IsLeastCost q s instance least
+-- the plan of an optimum is valid and costs the least at its vector, which is sound
+pub record IsOptimum (q : Statement) (s : Statistics) (optimum : Optimum) : Type 0 where
+  pub vector : IsSoundVector q s optimum.at
+  pub valid : IsValidTop q s.indexed optimum.top
+  pub costs : top_cost q s optimum.at optimum.top ≡ optimum.least
+  pub least : IsLeastCost q s optimum.at optimum.least
 
 abbrev pub KeepingLaw : Type 0
 KeepingLaw =
-    (same : TopTree → TopTree → Bool) (cache : CacheState) (q : Statement) (s : Statistics) (executions : ℕ) (instance : List ℕ) (top : TopTree) (least : ℕ) (keep : Fraction) (budget : ℕ)
-    → TellsSame same → 1 ≤ budget → ¬ IsWide q s → IsOptimum q s instance top least → IsFaithfulCache cache q s executions budget
-    → IsFaithfulCache (kept_after same cache q s (executions + 1) instance top least keep budget).cache q s (executions + 1) budget
+    (cache : CacheState) (q : Statement) (s : Statistics) (executions : ℕ) (optimum : Optimum) (keep : Fraction) (budget : ℕ) → 1 ≤ budget → ¬ IsWide q s → IsOptimum q s optimum
+    → optimum.execution ≡ executions + 1 → IsFaithfulCache cache q s executions budget → IsFaithfulCache (kept_after cache q s optimum keep budget).cache q s (executions + 1) budget
+
+-- what counts as the same plan is the same tree
+abbrev pub SamePlanLaw : Type 0
+SamePlanLaw =
+    (q : Statement) (indexed : List ℕ) (a b : TopTree) → IsSoundQuery q → All (λ place. IsSchema place.schema) q.places → IsValidTop q indexed a → IsValidTop q indexed b
+    → IsTrue (is_same_plan q a b) ↔ (a ≡ b)
 
 -- The bound.
 
@@ -94,5 +100,5 @@ IsOutside lambda instance at =
 
 abbrev pub WindowLaw : Type 0
 WindowLaw =
-    (lambda : Fraction) (instance : List ℕ) (anchor : Anchor) → 1 ≤ lambda.den → lambda.den ≤ lambda.num → 1 ≤ anchor.least → anchor.least ≤ anchor.plan_cost
+    (lambda : Fraction) (instance : List ℕ) (anchor : Anchor) → lambda.den ≤ lambda.num → 1 ≤ anchor.least → anchor.least ≤ anchor.plan_cost
     → length instance ≡ length anchor.at → IsOutside lambda instance anchor.at → passes_selectivity_check lambda instance anchor ≡ false

@@ -1,5 +1,5 @@
 //! Laws of plan caches. Their promise is the clause; there is nothing to run.
-ghost use Rattle.cache_model.specs.Laws.{ChoiceBoundLaw, ClearedIsFaithful, CostTestLaw, EmptyIsFaithful, EvictLaw, FaithfulLater, KeepingLaw, OneLeastCostLaw, ReuseLaw, SelectivityTestLaw, WindowLaw};
+ghost use Rattle.cache_model.specs.Laws.{ChoiceBoundLaw, ClearedIsFaithful, CostTestLaw, EmptyIsFaithful, EvictLaw, FaithfulLater, KeepingLaw, OneLeastCostLaw, ReuseLaw, SamePlanLaw, SelectivityTestLaw, WindowLaw};
 
 /// The selectivity check as a test passes exactly where the check does.
 pub fn selectivity_test_tells()
@@ -39,6 +39,11 @@ pub fn evict_keeps_faithful()
 /// Keeping an optimised plan, or its anchor alone, or nothing, keeps a cache faithful.
 pub fn keeping_keeps_faithful()
     ensures { KeepingLaw }
+{}
+
+/// What keeping takes for the same plan is the same tree.
+pub fn same_plan_tells()
+    ensures { SamePlanLaw }
 {}
 
 /// What a faithful cache lets be used again is valid, and costs at most `num / den` times the least.
