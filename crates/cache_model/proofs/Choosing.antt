@@ -15,41 +15,13 @@ use Rattle.cost_model.specs.Costs.{top_cost}
 use Rattle.cost_model.specs.LeastCost.{IsLeastCost}
 use Rattle.cost_model.specs.Laws.{CostCheckLaw, IsReuse, SelectivityCheckLaw}
 use Rattle.cache_model.specs.Caches.{Anchor, CachedPlan, CacheState, top_numbered}
-use Rattle.cache_model.specs.Choices.{ByCost, ByOptimum, BySelectivity, Candidate, Choice, by_nearness, candidates_of, choice_among, choice_of, is_cheap_enough, is_nearer, passes_cost_check, passes_selectivity_check, placed_from, position_chosen, put_in_order}
+use Rattle.cache_model.specs.Choices.{ByCost, ByOptimum, BySelectivity, Candidate, Choice, by_nearness, candidates_of, choice_among, choice_of, passes_cost_check, passes_selectivity_check, placed_from, position_chosen}
 use Rattle.cache_model.specs.Faithful.{IsFaithfulAnchor, IsFaithfulCache, IsFaithfulPlan}
 use Rattle.cache_model.specs.Laws.{CostTestLaw, IsWithinBound, SelectivityTestLaw}
+use Rattle.cache_model.proofs.Candidates.{StandsIn, each_in_order, each_placed}
 use Rattle.cache_model.proofs.Counts.{counts_some}
 use Rattle.cache_model.proofs.Lists.{each_from, each_take, each_to}
 use Rattle.cache_model.proofs.LookUps.{numbered_has}
-
--- Candidates are anchors of the list.
-
-abbrev pub StandsIn : List Anchor → (Anchor → Type 0) → Candidate → Type 0
-StandsIn anchors P candidate = (slice_get anchors candidate.position ≡ Some candidate.anchor) × P candidate.anchor
-
-next_place : (all : List Anchor) (n k : ℕ) (x : Option Anchor) → slice_get all (n + suc k) ≡ x → slice_get all (n + 1 + k) ≡ x
-next_place all n k x e = let same : n + 1 + k ≡ n + suc k = omega arith in ap (slice_get all) same ∙ e
-
-first_place : (all : List Anchor) (n : ℕ) (x : Option Anchor) → slice_get all (n + 0) ≡ x → slice_get all n ≡ x
-first_place all n x e = let same : n ≡ n + 0 = omega arith in ap (slice_get all) same ∙ e
-
-each_placed : (P : Anchor → Type 0) (all : List Anchor) (n : ℕ) (anchors : List Anchor) → ((k : ℕ) → slice_get all (n + k) ≡ slice_get anchors k) → AllByRecursion P anchors → AllByRecursion (StandsIn all P) (placed_from n anchors)
-each_placed P all n [] at h = tt
-each_placed P all n (anchor ∷ anchors) at h =
-    ((first_place all n (Some anchor) (at 0), h.0), each_placed P all (n + 1) anchors (λ k. next_place all n k (slice_get anchors k) (at (suc k))) h.1)
-
-put_by : (P : Candidate → Type 0) (b : Bool) (new first : Candidate) (rest others : List Candidate) → P new → P first → AllByRecursion P rest → AllByRecursion P others → AllByRecursion P (cond b (first ∷ others) (new ∷ first ∷ rest))
-put_by P true new first rest others n f r o = (f, o)
-put_by P false new first rest others n f r o = (n, (f, r))
-
-each_put : (P : Candidate → Type 0) (instance : List ℕ) (new : Candidate) (candidates : List Candidate) → P new → AllByRecursion P candidates → AllByRecursion P (put_in_order instance new candidates)
-each_put P instance new [] n h = (n, tt)
-each_put P instance new (candidate ∷ candidates) n h =
-    put_by P (is_nearer instance candidate.anchor new.anchor) new candidate candidates (put_in_order instance new candidates) n h.0 h.1 (each_put P instance new candidates n h.1)
-
-each_in_order : (P : Candidate → Type 0) (instance : List ℕ) (candidates : List Candidate) → AllByRecursion P candidates → AllByRecursion P (by_nearness instance candidates)
-each_in_order P instance [] h = tt
-each_in_order P instance (candidate ∷ candidates) h = each_put P instance candidate (by_nearness instance candidates) h.0 (each_in_order P instance candidates h.1)
 
 -- What is chosen has passed.
 
@@ -100,7 +72,7 @@ by_cost law tells q s plans executions instance lambda anchor h sound valid pass
 
 -- The choice.
 
-valid_there : (cache : CacheState) (q : Statement) (s : Statistics) (executions budget number : ℕ) (top : TopTree) → IsFaithfulCache cache q s executions budget → top_numbered cache.plans number ≡ Some top → IsValidTop q s.indexed top
+pub valid_there : (cache : CacheState) (q : Statement) (s : Statistics) (executions budget number : ℕ) (top : TopTree) → IsFaithfulCache cache q s executions budget → top_numbered cache.plans number ≡ Some top → IsValidTop q s.indexed top
 valid_there cache q s executions budget number top h there =
     numbered_has (IsValidTop q s.indexed) cache.plans number top
     (each_to (IsFaithfulPlan q s cache.anchors cache.next_plan) (λ plan. IsValidTop q s.indexed plan.top) (λ plan k. k.valid) cache.plans

@@ -1,3 +1,4 @@
+pub mod Candidates
 pub mod Choosing
 pub mod Counts
 pub mod Distances
@@ -7,4 +8,5 @@ pub mod LookUps
 pub mod Reusing
 pub mod SamePlans
 pub mod Saving
+pub mod Sizes
 pub mod Tests

@@ -1,16 +1,17 @@
 -- What the laws of plan caches say, for all caches, statements and statistics.
-use Rattle.std.specs.Prelude.{ℕ, ◌≡◌, ◌<◌, ◌≤◌, ◌+◌, ◌*◌, min, max, Bool, true, false, IsTrue, ◌↔◌, List, length, All, slice_index, slice_get, Some}
+use Rattle.std.specs.Prelude.{ℕ, ◌≡◌, ◌<◌, ◌≤◌, ◌+◌, ◌*◌, ◌^◌, ◌⊎◌, min, max, Bool, true, false, IsTrue, ◌↔◌, List, length, All, AllPairs, slice_index, slice_get, Some}
 use Rattle.fraction_math.specs.Fraction.{Fraction}
 use Rattle.row_values.specs.Columns.{IsSchema}
 use Rattle.row_values.specs.Statements.{Statement, IsSoundQuery}
 use Rattle.plan_trees.specs.PlanSpace.{IsValidTop}
-use Rattle.plan_trees.specs.Statistics.{Statistics, IsSoundVector}
+use Rattle.plan_trees.specs.Statistics.{Statistics, IsSoundStats, IsSoundVector}
 use Rattle.plan_trees.specs.Trees.{TopTree}
 use Rattle.cost_model.specs.Checks.{PassesSelectivityCheck, PassesCostCheck}
 use Rattle.cost_model.specs.Costs.{top_cost}
+use Rattle.cost_model.specs.Laws.{IsCost}
 use Rattle.cost_model.specs.LeastCost.{IsLeastCost}
 use Rattle.cache_model.specs.Caches.{Anchor, CachedPlan, CacheState, cleared, empty_cache, reused, top_numbered, without}
-use Rattle.cache_model.specs.Choices.{choice_of, passes_cost_check, passes_selectivity_check, position_chosen}
+use Rattle.cache_model.specs.Choices.{Candidate, by_nearness, choice_of, greater_product, is_nearer, passes_cost_check, passes_selectivity_check, placed_from, position_chosen}
 use Rattle.cache_model.specs.Faithful.{IsFaithfulCache, IsWide}
 use Rattle.cache_model.specs.Keeping.{Optimum, is_same_plan, kept_after}
 
@@ -90,6 +91,43 @@ ChoiceBoundLaw =
 
 abbrev pub OneLeastCostLaw : Type 0
 OneLeastCostLaw = (q : Statement) (s : Statistics) (vector : List ℕ) (a b : ℕ) → IsLeastCost q s vector a → IsLeastCost q s vector b → a ≡ b
+
+-- Candidates.
+
+-- the first is nearer, or stands earlier in the list where the second isn't nearer
+abbrev pub ComesBefore : List ℕ → Candidate → Candidate → Type 0
+ComesBefore instance a b =
+    IsTrue (is_nearer instance a.anchor b.anchor) ⊎ ((is_nearer instance b.anchor a.anchor ≡ false) × (a.position < b.position))
+
+-- all anchors of the list, each once, in one order
+pub record AreByNearness (instance : List ℕ) (anchors : List Anchor) (candidates : List Candidate) : Type 0 where
+  pub placed : All (λ candidate. slice_get anchors candidate.position ≡ Some candidate.anchor) candidates
+  pub whole : length candidates ≡ length anchors
+  pub in_order : AllPairs (ComesBefore instance) candidates
+
+abbrev pub CandidatesLaw : Type 0
+CandidatesLaw =
+    (instance : List ℕ) (anchors : List Anchor) → All (λ n. 1 ≤ n) instance → All (λ anchor. All (λ n. 1 ≤ n) anchor.at) anchors
+    → AreByNearness instance anchors (by_nearness instance (placed_from 0 anchors))
+
+-- Numbers.
+
+-- an anchor's costs fit, and its plan costs no less than the least
+pub record IsSoundAnchor (anchor : Anchor) : Type 0 where
+  pub plan_cost : IsCost anchor.plan_cost
+  pub least : IsCost anchor.least
+  pub no_less : anchor.least ≤ anchor.plan_cost
+
+abbrev pub AnchorCostsLaw : Type 0
+AnchorCostsLaw =
+    (cache : CacheState) (q : Statement) (s : Statistics) (executions budget : ℕ) → IsSoundQuery q → IsSoundStats q s → IsFaithfulCache cache q s executions budget
+    → All IsSoundAnchor cache.anchors
+
+-- the products of the checks, and those of the candidates' order, are at most this one
+abbrev pub VectorsFitLaw : Type 0
+VectorsFitLaw =
+    (q : Statement) (s : Statistics) (instance anchor : List ℕ) → IsSoundQuery q → IsSoundStats q s → IsSoundVector q s instance → IsSoundVector q s anchor
+    → greater_product instance anchor ≤ 2 ^ 63
 
 -- The window: which anchors the selectivity check can let through at all.
 

@@ -1,5 +1,5 @@
 //! Laws of plan caches. Their promise is the clause; there is nothing to run.
-ghost use Rattle.cache_model.specs.Laws.{ChoiceBoundLaw, ClearedIsFaithful, CostTestLaw, EmptyIsFaithful, EvictLaw, FaithfulLater, KeepingLaw, OneLeastCostLaw, ReuseLaw, SamePlanLaw, SelectivityTestLaw, WindowLaw};
+ghost use Rattle.cache_model.specs.Laws.{AnchorCostsLaw, CandidatesLaw, ChoiceBoundLaw, ClearedIsFaithful, CostTestLaw, EmptyIsFaithful, EvictLaw, FaithfulLater, KeepingLaw, OneLeastCostLaw, ReuseLaw, SamePlanLaw, SelectivityTestLaw, VectorsFitLaw, WindowLaw};
 
 /// The selectivity check as a test passes exactly where the check does.
 pub fn selectivity_test_tells()
@@ -59,4 +59,19 @@ pub fn one_least_cost()
 /// An anchor whose first selectivity is further from the instance's than the ratio doesn't pass the selectivity check.
 pub fn outside_the_window_fails()
     ensures { WindowLaw }
+{}
+
+/// The candidates of the cost check are the anchors in one order: the nearest first, and then the earlier.
+pub fn candidates_are_by_nearness()
+    ensures { CandidatesLaw }
+{}
+
+/// The costs of the anchors of a faithful cache are from 1 to below 2^124, and no plan costs less than the least.
+pub fn anchor_costs_fit()
+    ensures { AnchorCostsLaw }
+{}
+
+/// The greater numbers of two sound vectors multiply to at most 2^63.
+pub fn vectors_fit()
+    ensures { VectorsFitLaw }
 {}
