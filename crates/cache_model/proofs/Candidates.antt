@@ -1,5 +1,5 @@
 -- The candidates are the anchors of the list, the nearest first.
-use Rattle.std.proofs.Common.{ℕ, zero, suc, ◌≡◌, ◌≤◌, ◌<◌, ◌+◌, ◌*◌, ◌⊎◌, inl, inr, min, nat_lt, Bool, true, false, cond, List, [], ◌∷◌, length, slice_get, All, Option, Some, if◌then◌else◌, ap, sym, ◌∙◌, refl, subst, arith, mul_assoc, mul_comm, mul-le-mul, mul-le-mul_right, add-mul}
+use Rattle.std.proofs.Common.{ℕ, suc, ◌≡◌, ◌≤◌, ◌<◌, ◌+◌, ◌*◌, ◌⊎◌, inl, inr, min, Bool, true, false, cond, List, [], ◌∷◌, length, slice_get, All, Option, Some, ap, ◌∙◌, refl, arith, mul_assoc, mul_comm, mul-le-mul, mul-le-mul_right, add-mul}
 use Rattle.std.specs.List.{AllByRecursion}
 use Rattle.std.proofs.lemmas.Bool.{cases_lt, le-ltb, ltb-false, ltb-true}
 use Rattle.cache_model.specs.Caches.{Anchor}

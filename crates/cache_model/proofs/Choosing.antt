@@ -1,8 +1,7 @@
 -- The anchor that is chosen is one of the list that passed its check, so its plan is within the bound.
-use Rattle.std.proofs.Common.{ℕ, zero, suc, ◌≡◌, ◌≤◌, ◌<◌, ◌+◌, ◌*◌, Bool, true, false, cond, List, [], ◌∷◌, length, take, slice_get, slice_index_or, All, Option, Some, None, if◌then◌else◌, ap, sym, ◌∙◌, refl, subst, arith}
+use Rattle.std.proofs.Common.{ℕ, ◌≡◌, ◌≤◌, ◌+◌, ◌*◌, Bool, true, false, cond, List, [], ◌∷◌, slice_get, slice_index_or, Option, Some, None, ap, refl, subst, arith}
 use Rattle.std.specs.List.{AllByRecursion, position}
 use Rattle.std.specs.Option.{option_map_or}
-use Rattle.std.proofs.lemmas.Bool.{false≢true}
 use Rattle.std.proofs.lemmas.List.Quantifiers.{position-Some}
 use Rattle.std.proofs.lemmas.Option.{none-some, same_Some, slice_get-get_or}
 use Rattle.fraction_math.specs.Fraction.{Fraction}
@@ -10,12 +9,12 @@ use Rattle.row_values.specs.Statements.{Statement}
 use Rattle.plan_trees.specs.PlanSpace.{IsValidTop}
 use Rattle.plan_trees.specs.Statistics.{Statistics, IsSoundVector}
 use Rattle.plan_trees.specs.Trees.{TopTree}
-use Rattle.cost_model.specs.Checks.{PassesSelectivityCheck, PassesCostCheck}
+use Rattle.cost_model.specs.Checks.{PassesSelectivityCheck}
 use Rattle.cost_model.specs.Costs.{top_cost}
 use Rattle.cost_model.specs.LeastCost.{IsLeastCost}
 use Rattle.cost_model.specs.Laws.{CostCheckLaw, IsReuse, SelectivityCheckLaw}
 use Rattle.cache_model.specs.Caches.{Anchor, CachedPlan, CacheState, top_numbered}
-use Rattle.cache_model.specs.Choices.{ByCost, ByOptimum, BySelectivity, Candidate, Choice, by_nearness, candidates_of, choice_among, choice_of, passes_cost_check, passes_selectivity_check, placed_from, position_chosen}
+use Rattle.cache_model.specs.Choices.{ByCost, BySelectivity, Candidate, Choice, by_nearness, candidates_of, choice_among, choice_of, passes_cost_check, passes_selectivity_check, placed_from, position_chosen}
 use Rattle.cache_model.specs.Faithful.{IsFaithfulAnchor, IsFaithfulCache, IsFaithfulPlan}
 use Rattle.cache_model.specs.Laws.{CostTestLaw, IsWithinBound, SelectivityTestLaw}
 use Rattle.cache_model.proofs.Candidates.{StandsIn, each_in_order, each_placed}

@@ -1,5 +1,5 @@
 -- How far two vectors are apart: what is grown and what has shrunk, where the first numbers are outside the window.
-use Rattle.std.proofs.Common.{ℕ, zero, suc, ◌≡◌, ◌≤◌, ◌<◌, ◌+◌, ◌*◌, ◌^◌, ◌&&◌, min, max, nat_lt, nat_le, Bool, true, false, List, [], ◌∷◌, length, slice_index, if◌then◌else◌, ap, sym, ◌∙◌, refl, subst, arith, mul_assoc, mul_comm, mul-le-mul, mul-le-mul_left, mul-le-mul_right, add-mul}
+use Rattle.std.proofs.Common.{ℕ, ◌≡◌, ◌≤◌, ◌<◌, ◌+◌, ◌*◌, ◌^◌, ◌&&◌, min, max, nat_lt, nat_le, Bool, true, false, List, [], ◌∷◌, length, slice_index, if◌then◌else◌, ap, refl, subst, arith, mul_assoc, mul_comm, mul-le-mul, mul-le-mul_left, mul-le-mul_right, add-mul}
 use Rattle.std.proofs.lemmas.Bool.{and_right, lt-leb, ltb-false, ltb-true}
 use Rattle.fraction_math.specs.Fraction.{Fraction}
 use Rattle.cost_polynomials.specs.Growth.{grown_to, grown_from, shrunk_to, shrunk_from}

@@ -1,6 +1,6 @@
 -- A plan goes with its anchors: what stays is faithful.
-use Rattle.std.proofs.Common.{ℕ, ◌≡◌, ◌≢◌, ◌≤◌, ◌<◌, ◌+◌, Bool, true, List, [], ◌∷◌, length, All, ap, sym, ◌∙◌, refl, arith, le_trans}
-use Rattle.std.specs.List.{AllByRecursion, AllPairs, filter}
+use Rattle.std.proofs.Common.{ℕ, ◌≡◌, ◌≢◌, ◌<◌, Bool, true, List, ap, le_trans}
+use Rattle.std.specs.List.{AllPairs, filter}
 use Rattle.row_values.specs.Statements.{Statement}
 use Rattle.plan_trees.specs.Statistics.{Statistics}
 use Rattle.cache_model.specs.Caches.{Anchor, CachedPlan, CacheState, without}

@@ -3,6 +3,7 @@ pub mod Choosing
 pub mod Counts
 pub mod Distances
 pub mod Evicting
+pub mod FirstPassing
 pub mod Lists
 pub mod LookUps
 pub mod Reusing

@@ -1,6 +1,6 @@
 -- Facts of each element of a list and of each two, by recursion, and how they survive what is done to the list.
-use Rattle.std.proofs.Common.{ℕ, zero, suc, ◌≡◌, ◌≤◌, ◌<◌, ◌+◌, Bool, true, false, cond, not, List, [], ◌∷◌, ◌++◌, length, take, slice_index_or, All, Option, Some, None, if◌then◌else◌, ap, sym, ◌∙◌, refl, subst, arith}
-use Rattle.std.specs.List.{AllPairs, AllByRecursion, filter, find, list_any}
+use Rattle.std.proofs.Common.{ℕ, zero, suc, ◌≡◌, ◌≤◌, ◌<◌, ◌+◌, Bool, true, false, cond, List, [], ◌∷◌, ◌++◌, length, take, slice_index_or, All, Option, Some, None, sym, refl, subst, arith}
+use Rattle.std.specs.List.{AllPairs, AllByRecursion, filter, find}
 use Rattle.std.proofs.lemmas.Option.{none-some, same_Some}
 
 -- Each element.

@@ -1,9 +1,9 @@
 -- Caches that are empty, that stay as they are, and that are used again: they are faithful.
-use Rattle.std.proofs.Common.{ℕ, zero, suc, ◌≡◌, ◌≤◌, ◌<◌, ◌+◌, Bool, true, List, [], ◌∷◌, length, All, ap, sym, ◌∙◌, refl, subst, arith, le_trans}
+use Rattle.std.proofs.Common.{ℕ, zero, suc, ◌≡◌, ◌≤◌, ◌<◌, ◌+◌, List, [], ◌∷◌, length, ap, sym, ◌∙◌, refl, subst, arith, le_trans}
 use Rattle.std.specs.List.{AllByRecursion}
 use Rattle.row_values.specs.Statements.{Statement}
 use Rattle.plan_trees.specs.Statistics.{Statistics, IsWithin}
-use Rattle.cache_model.specs.Caches.{Anchor, CachedPlan, CacheState, has_anchor, reused, used_at}
+use Rattle.cache_model.specs.Caches.{Anchor, CachedPlan, CacheState, reused, used_at}
 use Rattle.cache_model.specs.Faithful.{IsFaithfulAnchor, IsFaithfulCache, IsFaithfulPlan}
 use Rattle.cache_model.specs.declared.limits.TheConstants.{ANCHOR_LIMIT}
 use Rattle.cache_model.proofs.Lists.{EachTwo, all_from, each_from, each_to, each_two_from, pairs_from}

@@ -1,22 +1,19 @@
 -- What is kept of an optimum, with an older plan or with its own: the cache stays faithful.
-use Rattle.std.proofs.Common.{ℕ, zero, suc, ◌≡◌, ◌≢◌, ◌≤◌, ◌<◌, ◌+◌, ◌==◌, nat_lt, Bool, true, false, cond, not, List, [], ◌∷◌, ◌++◌, length, All, Option, Some, None, if◌then◌else◌, ap, sym, ◌∙◌, refl, subst, arith, le_trans}
-use Rattle.std.specs.Prelude.{IsTrue, ◌↔◌}
-use Rattle.std.specs.List.{AllByRecursion, filter, find}
+use Rattle.std.proofs.Common.{ℕ, ◌≡◌, ◌≢◌, ◌≤◌, ◌<◌, ◌+◌, nat_lt, Bool, true, false, cond, List, [], ◌∷◌, ◌++◌, length, Option, Some, None, ap, sym, ◌∙◌, refl, subst, arith, le_trans}
+use Rattle.std.specs.List.{AllByRecursion, best_of, filter, find}
 use Rattle.std.specs.Option.{option_map, option_map_or, option_or}
 use Rattle.std.proofs.lemmas.Bool.{false≢true, ltb-true, ltb-false}
 use Rattle.std.proofs.lemmas.List.{length_push}
 use Rattle.std.proofs.lemmas.Option.{none-some, same_Some}
 use Rattle.fraction_math.specs.Fraction.{Fraction}
 use Rattle.row_values.specs.Statements.{Statement}
-use Rattle.plan_trees.specs.PlanSpace.{IsValidTop}
-use Rattle.plan_trees.specs.Statistics.{Statistics, IsSoundVector, IsWithin}
+use Rattle.plan_trees.specs.Statistics.{Statistics}
 use Rattle.plan_trees.specs.Trees.{TopTree}
 use Rattle.cost_model.specs.Costs.{top_cost}
-use Rattle.cost_model.specs.LeastCost.{IsLeastCost}
-use Rattle.cache_model.specs.Caches.{Anchor, CachedPlan, CacheState, top_numbered, uses_of, with_anchor, with_plan, without}
+use Rattle.cache_model.specs.Caches.{Anchor, CachedPlan, CacheState, top_numbered, uses_of, with_anchor, without}
 use Rattle.cache_model.specs.Faithful.{IsFaithfulAnchor, IsFaithfulCache, IsFaithfulPlan, IsWide}
-use Rattle.cache_model.specs.Keeping.{KeptNothing, Optimum, added, anchor_of, covering, covers, evicted_for_room, first_least, is_same_plan, kept_after, kept_with_new, kept_with_old, lesser_by, old_plan, victim, with_room}
-use Rattle.cache_model.specs.Laws.{IsOptimum}
+use Rattle.cache_model.specs.Keeping.{KeptNothing, Optimum, added, anchor_of, covering, covers, evicted_for_room, first_least, is_same_plan, kept_after, kept_with_new, kept_with_old, old_plan, victim, with_room}
+use Rattle.cache_model.specs.Laws.{IsNextOf, IsOptimum}
 use Rattle.cache_model.specs.declared.limits.TheConstants.{ANCHOR_LIMIT}
 use Rattle.cache_model.proofs.Evicting.{faithful_without}
 use Rattle.cache_model.proofs.Lists.{all_from, each_filter, each_from, each_push, each_to, each_two_from, found_is, length-filter, none_found, pairs_from, two_push}
@@ -132,18 +129,18 @@ lesser_has : {X : Type 0} (P : X → Type 0) (b : Bool) (x y : X) → P x → P 
 lesser_has P true x y h k = k
 lesser_has P false x y h k = h
 
-least_has : {X : Type 0} (P : X → Type 0) (number : X → ℕ) (x : X) (rest : Option X) → P x → ((y : X) → rest ≡ Some y → P y) → P (lesser_by number x rest)
-least_has P number x None h later = h
-least_has P number x (Some y) h later = lesser_has P (nat_lt (number y) (number x)) x y h (later y refl)
+best_has : {X : Type 0} (P : X → Type 0) (beats : X → X → Bool) (x : X) (xs : List X) → P x → AllByRecursion P xs → P (best_of beats x xs)
+best_has P beats x [] h k = h
+best_has P beats x (y ∷ xs) h k = best_has P beats (cond (beats y x) y x) xs (lesser_has P (beats y x) x y h k.0) k.1
 
-pub first_least_has : {X : Type 0} (P : X → Type 0) (number : X → ℕ) (xs : List X) (y : X) → AllByRecursion P xs → first_least number xs ≡ Some y → P y
+first_least_has : {X : Type 0} (P : X → Type 0) (number : X → ℕ) (xs : List X) (y : X) → AllByRecursion P xs → first_least number xs ≡ Some y → P y
 first_least_has P number [] y h e = absurd (none-some y e)
 first_least_has P number (x ∷ xs) y h e =
-    subst P (same_Some (lesser_by number x (first_least number xs)) y e) (least_has P number x (first_least number xs) h.0 (λ z k. first_least_has P number xs z h.1 k))
+    subst P (same_Some (best_of (λ z least. nat_lt (number z) (number least)) x xs) y e) (best_has P (λ z least. nat_lt (number z) (number least)) x xs h.0 h.1)
 
 none_least : {X : Type 0} (number : X → ℕ) (xs : List X) → first_least number xs ≡ None → xs ≡ []
 none_least number [] e = refl
-none_least number (x ∷ xs) e = absurd (none-some (lesser_by number x (first_least number xs)) (sym e))
+none_least number (x ∷ xs) e = absurd (none-some (best_of (λ z least. nat_lt (number z) (number least)) x xs) (sym e))
 
 -- Room.
 
@@ -244,3 +241,21 @@ pub faithful_kept : (cache : CacheState) (q : Statement) (s : Statistics) (execu
     → IsFaithfulCache cache q s executions budget → IsFaithfulCache (kept_after cache q s optimum keep budget).cache q s (executions + 1) budget
 faithful_kept cache q s executions optimum keep budget some narrow is_optimum now h =
     kept_by cache q s executions budget optimum keep some narrow is_optimum now h (nat_lt (length cache.anchors) ANCHOR_LIMIT) refl
+
+-- Plan numbers.
+
+room_next : (cache : CacheState) (gone : Option ℕ) → (option_map_or (without cache) gone cache).next_plan ≡ cache.next_plan
+room_next cache None = refl
+room_next cache (Some number) = refl
+
+next_by : (cache : CacheState) (optimum : Optimum) (cost : TopTree → ℕ) (budget : ℕ) (b : Bool) (found : Option CachedPlan) → IsNextOf cache.next_plan
+    (cond b (option_map_or (kept_with_old cache optimum cost) found (kept_with_new cache optimum cost budget)) (record { cache = cache; evicted = None; kept = KeptNothing })).cache.next_plan
+next_by cache optimum cost budget true None =
+    let same : (with_room cache budget).next_plan ≡ cache.next_plan = room_next cache (evicted_for_room cache budget) in
+    subst (λ n. IsNextOf cache.next_plan (n + 1)) (sym same) (record { goes_on = omega arith; one_at_most = omega arith })
+next_by cache optimum cost budget true (Some plan) = record { goes_on = omega arith; one_at_most = omega arith }
+next_by cache optimum cost budget false found = record { goes_on = omega arith; one_at_most = omega arith }
+
+pub next_kept : (cache : CacheState) (q : Statement) (s : Statistics) (optimum : Optimum) (keep : Fraction) (budget : ℕ) → IsNextOf cache.next_plan (kept_after cache q s optimum keep budget).cache.next_plan
+next_kept cache q s optimum keep budget =
+    next_by cache optimum (top_cost q s optimum.at) budget (nat_lt (length cache.anchors) ANCHOR_LIMIT) (old_plan q optimum keep (top_cost q s optimum.at) cache.plans)

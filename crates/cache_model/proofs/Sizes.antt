@@ -1,12 +1,11 @@
 -- The numbers of a faithful cache and of sound vectors are small enough to be computed with.
-use Rattle.std.proofs.Common.{ℕ, zero, suc, ◌≡◌, ◌≤◌, ◌<◌, ◌*◌, ◌^◌, max, Bool, true, List, [], ◌∷◌, length, map, slice_get, slice_index, slice_index_or, All, Some, if◌then◌else◌, ap, sym, ◌∙◌, refl, subst, arith}
+use Rattle.std.proofs.Common.{ℕ, zero, suc, ◌≡◌, ◌≤◌, ◌<◌, ◌^◌, max, true, List, [], ◌∷◌, length, map, slice_index, ap, sym, ◌∙◌, refl, subst, arith}
 use Rattle.std.specs.List.{AllByRecursion}
 use Rattle.row_values.specs.Statements.{Statement, IsSoundQuery}
 use Rattle.plan_trees.specs.PlaceSets.{all_below, has}
 use Rattle.plan_trees.specs.PlanSpace.{IsValidTop}
 use Rattle.plan_trees.specs.Statistics.{Statistics, IsSoundStats, IsSoundVector, IsWithin, selectivity_places}
 use Rattle.cost_model.specs.Cardinalities.{marked_product}
-use Rattle.cost_model.specs.Costs.{top_cost}
 use Rattle.cost_model.specs.Laws.{CostRangeLaw, IsCost}
 use Rattle.cost_model.proofs.CostBounds.{selected_few}
 use Rattle.cost_model.proofs.Products.{IsVector}

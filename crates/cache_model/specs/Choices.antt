@@ -14,18 +14,18 @@ use Rattle.cache_model.specs.Caches.{Anchor, CachedPlan, CacheState, top_numbere
 abbrev pub is_at_most_in_128 : ℕ → ℕ → Bool
 is_at_most_in_128 left right = nat_lt left (2 ^ 128) && nat_lt right (2 ^ 128) && nat_le left right
 
--- the selectivity check at an instance: it costs no plan
+-- the selectivity check: no plan is costed at the instance
 abbrev pub passes_selectivity_check : Fraction → List ℕ → Anchor → Bool
 passes_selectivity_check lambda instance anchor =
     is_at_most_in_128 (anchor.plan_cost * grown_to instance anchor.at * shrunk_from instance anchor.at * lambda.den)
     (lambda.num * anchor.least * grown_from instance anchor.at * shrunk_to instance anchor.at)
 
--- the cost check at an instance where the anchor's plan has this cost
+-- the cost check, where the anchor's plan has this cost at the instance
 abbrev pub is_cheap_enough : Fraction → List ℕ → Anchor → ℕ → Bool
 is_cheap_enough lambda instance anchor cost =
     is_at_most_in_128 (cost * shrunk_from instance anchor.at * lambda.den) (lambda.num * anchor.least * shrunk_to instance anchor.at)
 
--- the cost check: the anchor's plan is costed at the instance
+-- the cost check of an anchor whose plan is one of these
 abbrev pub passes_cost_check : Statement → Statistics → Fraction → List ℕ → List CachedPlan → Anchor → Bool
 passes_cost_check q s lambda instance plans anchor =
     option_map_or (λ top. is_cheap_enough lambda instance anchor (top_cost q s instance top)) (top_numbered plans anchor.plan) false

@@ -1,5 +1,5 @@
 -- Worked by computation: caches of small statements over a thousand rows, with an index on each column.
-use Rattle.std.specs.Prelude.{ℕ, ◌≡◌, ◌*◌, ◌-◌, ◌^◌, Bool, true, false, List, [], ◌∷◌, codes, map, Option, Some, None, refl}
+use Rattle.std.specs.Prelude.{ℕ, ◌≡◌, ◌*◌, ◌-◌, ◌^◌, false, List, [], ◌∷◌, codes, map, replicate, Some, refl}
 use Rattle.std.specs.Fmt.{digits as number_digits}
 use Rattle.fraction_math.specs.Fraction.{Fraction}
 use Rattle.row_values.specs.Statements.{Statement, statement_of}
@@ -14,12 +14,11 @@ use Rattle.plan_trees.specs.declared.statistics.Weights.{Weights}
 use Rattle.plan_trees.specs.PlanSpace.{column_of}
 use Rattle.plan_trees.specs.Statistics.{Statistics}
 use Rattle.plan_trees.specs.Trees.{TopTree, Base, Rows}
-use Rattle.cost_model.specs.Cardinalities.{card_of, kappa}
 use Rattle.cost_model.specs.Costs.{top_cost, digits, digits_within}
 use Rattle.cost_model.specs.declared.scale.TheConstants.{COST_SCALE}
-use Rattle.cache_model.specs.Caches.{Anchor, CacheState, empty_cache, reused, without}
-use Rattle.cache_model.specs.Choices.{BySelectivity, ByCost, ByOptimum, Choice, choice_of, passes_cost_check, passes_selectivity_check}
-use Rattle.cache_model.specs.Keeping.{Eviction, Keeping, KeptNew, KeptOld, Optimum, is_same_plan, kept_after}
+use Rattle.cache_model.specs.Caches.{CacheState, empty_cache, reused}
+use Rattle.cache_model.specs.Choices.{BySelectivity, ByCost, ByOptimum, Choice, choice_of, passes_selectivity_check}
+use Rattle.cache_model.specs.Keeping.{Keeping, KeptNew, KeptNothing, KeptOld, Optimum, is_same_plan, kept_after}
 
 abbrev usual_weights : Weights
 usual_weights = record { row = 1; fetch = 2; probe = 1; hash = 2; sort = 1; out = 1 }
@@ -158,6 +157,23 @@ nearest_first = refl
 one_plan_alone : (keeping at_100.cache 1 (optimum_of 2 (1000 ∷ []) all_rows 1000)).evicted ≡ Some (record { plan = 1; anchors = 1 })
 unfolding digits digits_within number_digits is_same_plan
 one_plan_alone = refl
+
+-- Full cache: with 4096 anchors nothing is kept, not even of a plan that is there; with one less an anchor is.
+
+with_anchors : ℕ → CacheState
+with_anchors count = record {
+  plans = at_100.cache.plans;
+  anchors = replicate count (record { execution = 1; at = 100 ∷ []; plan = 1; plan_cost = 210 * COST_SCALE; least = 210 * COST_SCALE; uses = 1 });
+  next_plan = 2;
+}
+
+full_cache : (keeping (with_anchors 4096) 256 (optimum_of 2 (250 ∷ []) range 510)).kept ≡ KeptNothing
+unfolding with_anchors digits digits_within number_digits is_same_plan
+full_cache = refl
+
+room_for_one : (keeping (with_anchors 4095) 256 (optimum_of 2 (250 ∷ []) range 510)).kept ≡ KeptOld 1
+unfolding with_anchors digits digits_within number_digits is_same_plan
+room_for_one = refl
 
 -- Overflowing check: with the greatest ratio of parts below 2 ^ 63 the right side of both checks passes 2 ^ 128.
 

@@ -1,5 +1,6 @@
 -- What is kept of an instance that was optimised: an anchor, and its plan unless an older one does as well.
 use Rattle.std.specs.Prelude.{ℕ, ◌*◌, nat_lt, Bool, List, [], ◌∷◌, length, filter, find, Option, Some, None, if◌then◌else◌}
+use Rattle.std.specs.List.{best_of}
 use Rattle.std.specs.Option.{option_map, option_map_or, option_or}
 use Rattle.std.specs.Str.{bytes_eq}
 use Rattle.fraction_math.specs.Fraction.{Fraction}
@@ -19,15 +20,10 @@ pub record Optimum : Type 0 where
   pub top : TopTree
   pub least : ℕ
 
--- the lesser by this number, and the first where they are as great
-abbrev pub lesser_by : {X : Type 0} → (X → ℕ) → X → Option X → X
-lesser_by number x None = x
-lesser_by number x (Some y) = if nat_lt (number y) (number x) then y else x
-
--- the first of the least
+-- the first of those for which the number is least
 abbrev pub first_least : {X : Type 0} → (X → ℕ) → List X → Option X
 first_least number [] = None
-first_least number (x ∷ xs) = Some (lesser_by number x (first_least number xs))
+first_least number (x ∷ xs) = Some (best_of (λ y least. nat_lt (number y) (number least)) x xs)
 
 -- Redundant plans.
 

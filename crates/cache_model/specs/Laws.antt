@@ -1,5 +1,5 @@
 -- What the laws of plan caches say, for all caches, statements and statistics.
-use Rattle.std.specs.Prelude.{ℕ, ◌≡◌, ◌<◌, ◌≤◌, ◌+◌, ◌*◌, ◌^◌, ◌⊎◌, min, max, Bool, true, false, IsTrue, ◌↔◌, List, length, All, AllPairs, slice_index, slice_get, Some}
+use Rattle.std.specs.Prelude.{ℕ, ◌≡◌, ◌<◌, ◌≤◌, ◌+◌, ◌*◌, ◌^◌, ◌⊎◌, min, max, false, IsTrue, ◌↔◌, List, length, take, All, AllPairs, slice_index, slice_get, Some}
 use Rattle.fraction_math.specs.Fraction.{Fraction}
 use Rattle.row_values.specs.Columns.{IsSchema}
 use Rattle.row_values.specs.Statements.{Statement, IsSoundQuery}
@@ -11,7 +11,7 @@ use Rattle.cost_model.specs.Costs.{top_cost}
 use Rattle.cost_model.specs.Laws.{IsCost}
 use Rattle.cost_model.specs.LeastCost.{IsLeastCost}
 use Rattle.cache_model.specs.Caches.{Anchor, CachedPlan, CacheState, cleared, empty_cache, reused, top_numbered, without}
-use Rattle.cache_model.specs.Choices.{Candidate, by_nearness, choice_of, greater_product, is_nearer, passes_cost_check, passes_selectivity_check, placed_from, position_chosen}
+use Rattle.cache_model.specs.Choices.{ByCost, ByOptimum, BySelectivity, Candidate, Choice, by_nearness, candidates_of, choice_of, greater_product, is_nearer, passes_cost_check, passes_selectivity_check, placed_from, position_chosen}
 use Rattle.cache_model.specs.Faithful.{IsFaithfulCache, IsWide}
 use Rattle.cache_model.specs.Keeping.{Optimum, is_same_plan, kept_after}
 
@@ -66,6 +66,16 @@ KeepingLaw =
     (cache : CacheState) (q : Statement) (s : Statistics) (executions : ℕ) (optimum : Optimum) (keep : Fraction) (budget : ℕ) → 1 ≤ budget → ¬ IsWide q s → IsOptimum q s optimum
     → optimum.execution ≡ executions + 1 → IsFaithfulCache cache q s executions budget → IsFaithfulCache (kept_after cache q s optimum keep budget).cache q s (executions + 1) budget
 
+-- the next number afterwards: numbers go on, by one at most
+pub record IsNextOf (before after : ℕ) : Type 0 where
+  pub goes_on : before ≤ after
+  pub one_at_most : after ≤ before + 1
+
+abbrev pub NextPlanLaw : Type 0
+NextPlanLaw =
+    (cache : CacheState) (q : Statement) (s : Statistics) (optimum : Optimum) (keep : Fraction) (budget : ℕ)
+    → IsNextOf cache.next_plan (kept_after cache q s optimum keep budget).cache.next_plan
+
 -- what counts as the same plan is the same tree
 abbrev pub SamePlanLaw : Type 0
 SamePlanLaw =
@@ -91,6 +101,49 @@ ChoiceBoundLaw =
 
 abbrev pub OneLeastCostLaw : Type 0
 OneLeastCostLaw = (q : Statement) (s : Statistics) (vector : List ℕ) (a b : ℕ) → IsLeastCost q s vector a → IsLeastCost q s vector b → a ≡ b
+
+-- The choice, by what passes.
+
+-- the item at this position has the fact, and none before it has
+pub record IsFirst {T : Type 0} (P : T → Type 0) (xs : List T) (position : ℕ) : Type 0 where
+  pub item : T
+  pub there : slice_get xs position ≡ Some item
+  pub passes : P item
+  pub none_before : All (λ x. ¬ P x) (take position xs)
+
+abbrev pub PassesBySelectivity : Fraction → List ℕ → Anchor → Type 0
+PassesBySelectivity lambda instance anchor = PassesSelectivityCheck lambda.num lambda.den anchor.plan_cost anchor.least anchor.at instance
+
+-- the anchor's plan passes the cost check
+pub record PassesByCost (q : Statement) (s : Statistics) (plans : List CachedPlan) (lambda : Fraction) (instance : List ℕ) (anchor : Anchor) : Type 0 where
+  pub top : TopTree
+  pub plan : top_numbered plans anchor.plan ≡ Some top
+  pub check : PassesCostCheck lambda.num lambda.den (top_cost q s instance top) anchor.least anchor.at instance
+
+-- no anchor passes the selectivity check; of the candidates the one that was tried last is the first to pass the cost check
+pub record IsChosenByCost (cache : CacheState) (q : Statement) (s : Statistics) (instance : List ℕ) (lambda : Fraction) (recosts position tried : ℕ) : Type 0 where
+  pub not_by_selectivity : All (λ anchor. ¬ PassesBySelectivity lambda instance anchor) cache.anchors
+  pub before : ℕ
+  pub counted : tried ≡ before + 1
+  pub first : IsFirst (λ candidate. PassesByCost q s cache.plans lambda instance candidate.anchor) (candidates_of instance recosts cache.anchors) before
+  pub placed : first.item.position ≡ position
+
+-- no anchor passes the selectivity check, and no candidate the cost check
+pub record IsOptimised (cache : CacheState) (q : Statement) (s : Statistics) (instance : List ℕ) (lambda : Fraction) (recosts tried : ℕ) : Type 0 where
+  pub not_by_selectivity : All (λ anchor. ¬ PassesBySelectivity lambda instance anchor) cache.anchors
+  pub not_by_cost : All (λ candidate. ¬ PassesByCost q s cache.plans lambda instance candidate.anchor) (candidates_of instance recosts cache.anchors)
+  pub counted : tried ≡ length (candidates_of instance recosts cache.anchors)
+
+abbrev pub IsChoice : CacheState → Statement → Statistics → List ℕ → Fraction → ℕ → Choice → Type 0
+IsChoice cache q s instance lambda recosts (BySelectivity position) = IsFirst (PassesBySelectivity lambda instance) cache.anchors position
+IsChoice cache q s instance lambda recosts (ByCost position tried) = IsChosenByCost cache q s instance lambda recosts position tried
+IsChoice cache q s instance lambda recosts (ByOptimum tried) = IsOptimised cache q s instance lambda recosts tried
+
+-- a plan is used again exactly where a check passes
+abbrev pub ChoiceLaw : Type 0
+ChoiceLaw =
+    (cache : CacheState) (q : Statement) (s : Statistics) (instance : List ℕ) (lambda : Fraction) (recosts : ℕ)
+    → IsChoice cache q s instance lambda recosts (choice_of cache q s instance lambda recosts)
 
 -- Candidates.
 

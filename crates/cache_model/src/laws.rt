@@ -1,5 +1,5 @@
 //! Laws of plan caches. Their promise is the clause; there is nothing to run.
-ghost use Rattle.cache_model.specs.Laws.{AnchorCostsLaw, CandidatesLaw, ChoiceBoundLaw, ClearedIsFaithful, CostTestLaw, EmptyIsFaithful, EvictLaw, FaithfulLater, KeepingLaw, OneLeastCostLaw, ReuseLaw, SamePlanLaw, SelectivityTestLaw, VectorsFitLaw, WindowLaw};
+ghost use Rattle.cache_model.specs.Laws.{AnchorCostsLaw, CandidatesLaw, ChoiceBoundLaw, ChoiceLaw, ClearedIsFaithful, CostTestLaw, EmptyIsFaithful, EvictLaw, FaithfulLater, KeepingLaw, NextPlanLaw, OneLeastCostLaw, ReuseLaw, SamePlanLaw, SelectivityTestLaw, VectorsFitLaw, WindowLaw};
 
 /// The selectivity check as a test passes exactly where the check does.
 pub fn selectivity_test_tells()
@@ -41,6 +41,11 @@ pub fn keeping_keeps_faithful()
     ensures { KeepingLaw }
 {}
 
+/// Keeping gives one plan number at most, and none again.
+pub fn plan_numbers_go_on()
+    ensures { NextPlanLaw }
+{}
+
 /// What keeping takes for the same plan is the same tree.
 pub fn same_plan_tells()
     ensures { SamePlanLaw }
@@ -59,6 +64,11 @@ pub fn one_least_cost()
 /// An anchor whose first selectivity is further from the instance's than the ratio doesn't pass the selectivity check.
 pub fn outside_the_window_fails()
     ensures { WindowLaw }
+{}
+
+/// A plan is used again exactly where a check passes: the choice is the first anchor or candidate that does.
+pub fn reuse_where_a_check_passes()
+    ensures { ChoiceLaw }
 {}
 
 /// The candidates of the cost check are the anchors in one order: the nearest first, and then the earlier.
