@@ -50,7 +50,7 @@ one_each_by : (b : Bool) (t n : ℕ) (on : List ℕ) → length on ≡ n → len
 one_each_by true t n on e = omega arith
 one_each_by false t n on e = omega arith
 
-places_counted : (preds : List Pred) → length (selectivity_places preds) ≡ selectivity_count preds
+pub places_counted : (preds : List Pred) → length (selectivity_places preds) ≡ selectivity_count preds
 places_counted [] = refl
 places_counted (pred ∷ preds) = one_each_by (is_parameterised pred) pred.at.place (selectivity_count preds) (selectivity_places preds) (places_counted preds)
 
@@ -76,7 +76,7 @@ there_by false t i limit on first rest less = rest i less
 there_by true t zero limit on first rest less = first
 there_by true t (suc i) limit on first rest less = rest i (omega arith)
 
-places_there : (places : List Place) (preds : List Pred) → All (IsPred places) preds → (i : ℕ) → i < length (selectivity_places preds) → slice_index (selectivity_places preds) i < length places
+pub places_there : (places : List Place) (preds : List Pred) → All (IsPred places) preds → (i : ℕ) → i < length (selectivity_places preds) → slice_index (selectivity_places preds) i < length places
 places_there places [] h i less = absurd (omega arith)
 places_there places (pred ∷ preds) h i less =
     let first : IsPred places pred = h 0 pred (omega arith) in

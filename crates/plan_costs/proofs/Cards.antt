@@ -37,11 +37,15 @@ are_parts q s vector set h k v =
       card_few = card_below_limit q s vector set sized;
     }
 
-pub card_made : (q : Statement) (s : Statistics) (vector : List ℕ) (set start over left product : ℕ) → AreParts q s vector set → start ≡ COST_SCALE * product_over set 0 s.fixed
-    → over ≡ div_ceil start (rows_divisor set s.rows q.preds) → left ≡ div_ceil over (marked_product (map (is_inside set) q.edges) s.distinct)
-    → product ≡ marked_product (map (has set) (selectivity_places q.preds)) vector → left * product ≡ card_of q s vector set
-unfolding card_of kappa
-card_made q s vector set start over left product parts a b c d =
+pub kappa_made : (q : Statement) (s : Statistics) (vector : List ℕ) (set start over left : ℕ) → AreParts q s vector set → start ≡ COST_SCALE * product_over set 0 s.fixed
+    → over ≡ div_ceil start (rows_divisor set s.rows q.preds) → left ≡ div_ceil over (marked_product (map (is_inside set) q.edges) s.distinct) → left ≡ kappa q s set
+unfolding kappa
+kappa_made q s vector set start over left parts a b c =
     let once = quotient_twice (COST_SCALE * product_over set 0 s.fixed) (rows_divisor set s.rows q.preds) (marked_product (map (is_inside set) q.edges) s.distinct)
     (divisor_some set s.rows q.preds parts.rows parts.there) (marked_some (map (is_inside set) q.edges) s.distinct parts.distinct) in
-    rw (d, c, b, a, once) refl
+    rw (c, b, a, once) refl
+
+pub card_made : (q : Statement) (s : Statistics) (vector : List ℕ) (set constant product : ℕ) → constant ≡ kappa q s set
+    → product ≡ marked_product (map (has set) (selectivity_places q.preds)) vector → constant * product ≡ card_of q s vector set
+unfolding card_of
+card_made q s vector set constant product a b = rw (a, b) refl

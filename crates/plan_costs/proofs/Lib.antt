@@ -1,5 +1,9 @@
 pub mod Cards
 pub mod Digits
 pub mod Factors
+pub mod FormulaParts
+pub mod FormulaShapes
+pub mod FormulaValues
+pub mod Ones
 pub mod Quotients
 pub mod StepParts

@@ -13,13 +13,14 @@ use Rattle.plan_trees.specs.declared.plans.Access.{Access}
 use Rattle.plan_trees.specs.declared.plans.StepKind.TheVariants.{Loop, Probe}
 use Rattle.plan_trees.specs.Indexes.{has_index}
 use Rattle.plan_trees.specs.PlaceSets.{has, one}
-use Rattle.plan_trees.specs.PlanSpace.{IsValidStep, column_in, column_of, joins_to}
+use Rattle.plan_trees.specs.PlanSpace.{IsValidPlan, IsValidStep, column_in, column_of, joins_to}
 use Rattle.plan_trees.specs.Statistics.{Statistics, IsSoundStats, IsSoundVector}
-use Rattle.plan_trees.specs.Trees.{place_of}
+use Rattle.plan_trees.specs.Trees.{Tree, place_of, places_of}
 use Rattle.cost_model.specs.Cardinalities.{card_of}
 use Rattle.cost_model.specs.Costs.{access_unit, edge_fan, look_up_cost}
 use Rattle.cost_model.proofs.CostBounds.{join_below_limit, step_below_limit}
 use Rattle.cost_model.proofs.Growth.{selectivity_of}
+use Rattle.cost_model.proofs.Sets.{set_of_plan}
 use Rattle.cost_model.proofs.SoundNumbers.{are_sized}
 
 -- The column of a fan.
@@ -85,6 +86,9 @@ join_fits q s vector left right first second weight out h k v a b c d = rw (a, b
 
 pub small_set : (q : Statement) (set : ℕ) → IsSoundQuery q → set < 2 ^ length q.places → set < 32
 small_set q set h there = lt_of_lt_of_le there (pow-le-pow_right (omega arith) h.few_places)
+
+pub plan_small : (q : Statement) (indexed : List ℕ) (plan : Tree) → IsSoundQuery q → IsValidPlan q indexed plan → places_of plan < 32
+plan_small q indexed plan h valid = small_set q (places_of plan) h (set_of_plan q indexed plan valid).there
 
 -- Selectivities.
 

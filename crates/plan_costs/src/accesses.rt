@@ -1,7 +1,7 @@
 //! What one run of an access costs.
 //!
 //! Weights are below 2^16, row counts below 2^64 and digits at most 64, so no unit passes 128 bits.
-ghost use Rattle.std.specs.Prelude.{◌≡◌, ◌<◌, ◌^◌, false, length, slice_get};
+ghost use Rattle.std.specs.Prelude.{◌≡◌, ◌<◌, ◌^◌, ◌*◌, false, length, slice_get, slice_index};
 ghost use Rattle.std.specs.Option.{option_map_or};
 ghost use Rattle.row_values.specs.Statements.{is_parameterised as is_parameterised_pred, selectivity_count};
 ghost use Rattle.plan_trees.specs.PlanSpace.{IsValidAccess};
@@ -20,7 +20,7 @@ pub(crate) fn digits(number: u64) -> u32
 }
 
 /// How many of the predicates are parameterised.
-fn count_selectivities(preds: &[Pred]) -> usize
+pub(crate) fn count_selectivities(preds: &[Pred]) -> usize
     ensures { result ≡ selectivity_count preds.now }
 {
     let mut count = 0;
@@ -33,7 +33,7 @@ fn count_selectivities(preds: &[Pred]) -> usize
 }
 
 /// Whether the predicate of this number is parameterised.
-fn is_selected(q: &Query, pred: u8) -> bool
+pub(crate) fn is_selected(q: &Query, pred: u8) -> bool
     ensures { result ≡ option_map_or is_parameterised_pred (slice_get q.now.preds pred) false }
 {
     match q.preds().get(usize::from(pred)) {
@@ -66,6 +66,14 @@ pub(crate) fn look_up_cost(stats: &Stats, place: u8, found: u64) -> u128
         + u128::from(weights.fetch) * u128::from(found)
 }
 
+/// What it costs to read all rows of the place.
+pub(crate) fn scan_cost(stats: &Stats, place: u8) -> u128
+    requires there { place < length stats.now.rows }
+    ensures { result ≡ stats.now.weights.row * slice_index stats.now.rows place }
+{
+    u128::from(stats.weights().row) * u128::from(stats.rows(place))
+}
+
 /// What one run of the access costs, in rows.
 pub fn access_unit(q: &Query, stats: &Stats, a: &Access, s: &[u64]) -> u128
     requires sound { IsSoundStats q.now stats.now }
@@ -74,7 +82,7 @@ pub fn access_unit(q: &Query, stats: &Stats, a: &Access, s: &[u64]) -> u128
     ensures value { result ≡ costs.access_unit q.now stats.now s.now a.now }
 {
     match *a {
-        Access::Seq(place) => u128::from(stats.weights().row) * u128::from(stats.rows(place)),
+        Access::Seq(place) => scan_cost(stats, place),
         Access::Range(place, _, pred) => look_up_cost(stats, place, rows_met(q, stats, pred, s)),
         Access::Full(place, _) => look_up_cost(stats, place, stats.rows(place)),
     }

@@ -7,7 +7,7 @@ ghost use Rattle.std.specs.Int.{div_ceil};
 ghost use Rattle.row_values.specs.Statements.{is_parameterised as is_parameterised_pred, operand_parameters, operands_parameters, selectivity_count};
 ghost use Rattle.plan_trees.specs.PlaceSets.{has};
 ghost use Rattle.plan_trees.specs.Statistics.{IsSoundStats, IsSoundVector, selectivity_places};
-ghost use Rattle.cost_model.specs.Cardinalities.{card_of, is_inside, marked_product, product_over};
+ghost use Rattle.cost_model.specs.Cardinalities.{card_of, is_inside, kappa, marked_product, product_over};
 
 use cost_model::COST_SCALE;
 use plan_trees::{Stats, has_place};
@@ -156,6 +156,17 @@ fn selected_product(preds: &[Pred], set: u8, s: &[u64]) -> u64
     product
 }
 
+/// The part of the set's cardinality that no selectivity changes, on the cost scale.
+pub(crate) fn constant_part(q: &Query, stats: &Stats, set: u8) -> u128
+    requires { IsSoundStats q.now stats.now }
+    ensures { result ≡ kappa q.now stats.now set }
+{
+    let fixed = fixed_product(stats, q.places().len() as u8, set);
+    let start = COST_SCALE * u128::from(fixed);
+    let over_rows = by_selected_rows(start, q.preds(), stats, set);
+    by_distinct(over_rows, q.edges(), stats, set)
+}
+
 /// The cardinality of the set of places at the vector, on the cost scale.
 pub fn card(q: &Query, stats: &Stats, set: u8, s: &[u64]) -> u128
     requires sound { IsSoundStats q.now stats.now }
@@ -163,9 +174,6 @@ pub fn card(q: &Query, stats: &Stats, set: u8, s: &[u64]) -> u128
     requires there { set < 2 ^ length q.now.places }
     ensures value { result ≡ card_of q.now stats.now s.now set }
 {
-    let fixed = fixed_product(stats, q.places().len() as u8, set);
-    let start = COST_SCALE * u128::from(fixed);
-    let over_rows = by_selected_rows(start, q.preds(), stats, set);
-    let kappa = by_distinct(over_rows, q.edges(), stats, set);
-    kappa * u128::from(selected_product(q.preds(), set, s))
+    let selected = selected_product(q.preds(), set, s);
+    constant_part(q, stats, set) * u128::from(selected)
 }

@@ -18,7 +18,7 @@ use plan_trees::{Access, Stats, StepKind, edge_column, place_read, with_place, w
 use row_values::Query;
 
 /// The rows for each value of the place's column in the edge.
-fn edge_fan(q: &Query, stats: &Stats, place: u8, edge: u8) -> u64
+pub(crate) fn edge_fan(q: &Query, stats: &Stats, place: u8, edge: u8) -> u64
     requires place { place < length stats.now.fans }
     requires column { (e : AnEdge) → slice_get q.now.edges edge ≡ Some e
         → column_in place e < length (slice_index_or stats.now.fans place []) }

@@ -14,7 +14,7 @@ mod statistics;
 mod validity;
 
 pub use place_sets::{all_places, are_disjoint, has_place, one_place, with_place, with_places};
-pub use plans::{Access, Plan, StepKind, Top, place_read, same};
+pub use plans::{Access, Plan, StepKind, Top, place_read, same, step_place};
 pub use printing::print_plan;
 pub use reading::{NESTING_LIMIT, PlanFault, read_plan};
 pub use selectivities::Vector;

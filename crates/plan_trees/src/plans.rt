@@ -55,7 +55,7 @@ pub fn place_read(access: Access) -> u8
 }
 
 /// The place that the step takes in.
-pub(crate) fn step_place(step: StepKind) -> u8
+pub fn step_place(step: StepKind) -> u8
     ensures { result ≡ place_entering step }
 {
     match step {
