@@ -3,19 +3,24 @@
 //! One statement is `SELECT v FROM t WHERE v < ?` over a thousand rows with an index on v. The other joins
 //! three tables of 8, 1024 and 1024 rows: `SELECT a.x FROM a, b, c WHERE a.x = b.x AND a.y = c.y AND b.z = c.z`,
 //! where c.y has 512 values, and b.z and c.y have an index.
-ghost use Rattle.std.specs.Prelude.{ℕ, ◌≡◌, ◌≤◌, [], ◌∷◌, IfOk, IfSome, length};
+ghost use Rattle.std.specs.Prelude.{ℕ, List, All, ◌≡◌, ◌≤◌, [], ◌∷◌, IfOk, IfSome, length};
 ghost use Rattle.plan_trees.specs.Statistics.{IsSoundStats, IsSoundVector};
+ghost use Rattle.cost_polynomials.specs.Polynomial.{IsVectorFor};
+ghost use Rattle.cost_model.specs.Laws.{IsVectorOf};
 
 use crate::cardinalities::is_parameterised;
-use crate::{access_unit, card, join_cost, sort_cost, step_cost};
+use crate::{access_unit, card, join_cost, poly_of, sort_cost, step_cost};
 use cost_model::COST_SCALE;
+use cost_polynomials::Poly;
 use plan_trees::{
-    Access, Indexed, Stats, StepKind, Weights, are_disjoint, is_valid_access, is_valid_step,
+    Access, Indexed, Plan, Stats, StepKind, Top, Weights, are_disjoint, is_valid_access,
+    is_valid_step, valid,
 };
 use row_values::{
     ColRef, Column, Edge, Item, Kind, Operand, Place, Pred, Query, Schema, Test, Words,
 };
 use std::alloc::{AllocError, Global};
+use std::rc::Rc;
 use std::test::Fail;
 
 const USUAL: Weights = Weights {
@@ -132,6 +137,56 @@ fn each_access_of_a_thousand_rows(rt: HostRuntime) -> Result<(), Fail> {
     for (what, access, rows, want) in cases {
         assert_eq!(rt; unit_at(&q, &stats, access, rows), want, "{what}");
     }
+    Ok(())
+}
+
+/// The polynomial of the plan under a top that gives its rows as they are, if it is valid.
+fn poly_if_valid(
+    alloc: Global,
+    q: &Query,
+    stats: &Stats,
+    plan: Plan,
+) -> Result<Option<Poly>, AllocError>
+    requires { IsSoundStats q.now stats.now }
+    ensures { IfOk result (λ found. IfSome found (λ poly. (s : List ℕ) → IsVectorOf q.now s
+        → All (λ count. 1 ≤ count) s → IsVectorFor poly s)) }
+{
+    let top = Top::Rows(Rc::new(alloc, plan)?);
+    if !valid(q, stats.indexed(), &top) {
+        return Ok(None);
+    }
+    let poly = poly_of(alloc, q, stats, &top)?;
+    Ok(Some(poly))
+}
+
+/// The value of the polynomial where so many rows are below the argument.
+fn value_with(q: &Query, stats: &Stats, poly: &Poly, rows: u64) -> Option<u128>
+    requires vector { (n : ℕ) → 1 ≤ n → n ≤ 1000 → IsSoundVector q.now stats.now (n ∷ []) }
+    requires serves { (s : List ℕ) → IsVectorOf q.now s → All (λ count. 1 ≤ count) s → IsVectorFor poly.now s }
+{
+    if rows == 0 || rows > 1000 {
+        return None;
+    }
+    poly.eval(&[rows])
+}
+
+#[test]
+fn a_range_of_a_thousand_rows_as_a_polynomial(rt: HostRuntime) -> Result<(), Fail> {
+    let q = below(rt.alloc())?.ok_or("not sound")?;
+    let stats = thousand_rows(rt.alloc(), &q)?.ok_or("other places")?;
+    let range = Plan::Base(Access::Range(0, 0, 0));
+    let poly = poly_if_valid(rt.alloc(), &q, &stats, range)?.ok_or("not valid")?;
+    // A descent of 10 steps, and 2 for each row that is found.
+    assert_eq!(rt;
+        poly.terms(),
+        [(0, 10995116277760), (1, 2199023255552)].as_slice(),
+        "10 + 2 s0"
+    );
+    assert_eq!(rt;
+        value_with(&q, &stats, &poly, 100),
+        Some(210 * COST_SCALE),
+        "at s0 = 100"
+    );
     Ok(())
 }
 
@@ -308,5 +363,22 @@ fn each_hash_join_of_three_tables(rt: HostRuntime) -> Result<(), Fail> {
     for (what, left, right, want) in cases {
         assert_eq!(rt; join_over(&q, &stats, left, right), want, "{what}");
     }
+    Ok(())
+}
+
+#[test]
+fn two_probes_over_three_tables_as_a_polynomial(rt: HostRuntime) -> Result<(), Fail> {
+    let q = three_places(rt.alloc())?.ok_or("not sound")?;
+    let stats = three_tables(rt.alloc(), &q)?.ok_or("other places")?;
+    let a = Rc::new(rt.alloc(), Plan::Base(Access::Seq(0)))?;
+    let ac = Rc::new(rt.alloc(), Plan::Probe(a, 2, 1))?;
+    let probes = Plan::Probe(ac, 1, 2);
+    let poly = poly_if_valid(rt.alloc(), &q, &stats, probes)?.ok_or("not valid")?;
+    // 8 rows, then 136 and 208 and a 64th for the probes.
+    assert_eq!(rt;
+        poly.terms(),
+        [(0, 387045272846336)].as_slice(),
+        "no selectivity"
+    );
     Ok(())
 }
