@@ -23,12 +23,7 @@ pub struct Costed {
 
 impl Costed {
     /// The plan with the polynomial of its cost under these statistics.
-    pub fn of(
-        alloc: Global,
-        q: &Query,
-        stats: &Stats,
-        plan: Rc<Top>,
-    ) -> Result<Costed, AllocError>
+    pub fn of(alloc: Global, q: &Query, stats: &Stats, plan: Rc<Top>) -> Result<Costed, AllocError>
         requires sound { IsSoundStats q.now stats.now }
         requires valid { IsValidTop q.now stats.now.indexed (top_tree plan.value) }
         ensures plan { IfOk result (λ costed. costed.plan ≡ plan) }

@@ -7,3 +7,6 @@
 mod kept_costs;
 
 pub use kept_costs::Costed;
+
+#[cfg(test)]
+mod tests;

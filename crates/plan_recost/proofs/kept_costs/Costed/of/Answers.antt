@@ -1,10 +1,9 @@
 -- At a sound vector each selectivity has a number, and the cost fits.
-use Rattle.std.proofs.Common.{ℕ, ◌≡◌, ◌≤◌, List, All, ap, sym, ◌∙◌, subst, arith}
+use Rattle.std.proofs.Common.{ℕ, ◌≤◌, List, All, sym, subst, arith}
 use Rattle.std.proofs.lemmas.List.{get_or_default}
 use Rattle.row_values.specs.Statements.{Statement}
 use Rattle.plan_trees.specs.Statistics.{Statistics, IsSoundVector}
 use Rattle.plan_trees.specs.Trees.{top_tree}
-use Rattle.cost_model.specs.Costs.{top_cost}
 use Rattle.cost_model.specs.Laws.{IsCost}
 use Rattle.cost_model.proofs.CostBounds.{costs_fit}
 use Rattle.cost_model.proofs.SoundNumbers.{vector_some}
