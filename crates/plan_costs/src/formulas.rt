@@ -53,8 +53,7 @@ fn with_selectivity(
         ≡ (if has set place then Times (formula e) (Selectivity next) else formula e)) }
 {
     if has_place(set, place) {
-        let made = product(alloc, e, Expr::Sel(next))?;
-        Ok(made)
+        product(alloc, e, Expr::Sel(next))
     } else {
         Ok(e)
     }
@@ -83,8 +82,7 @@ fn card_expr(alloc: Global, q: &Query, stats: &Stats, set: u8) -> Result<Expr, A
     ensures { IfOk result (λ e. formula e ≡ card_formula q.now stats.now set) }
 {
     let constant = Expr::Num(constant_part(q, stats, set));
-    let made = with_selectivities(alloc, constant, q.preds(), set)?;
-    Ok(made)
+    with_selectivities(alloc, constant, q.preds(), set)
 }
 
 /// The cardinality of the set of places, this many times.
@@ -98,8 +96,7 @@ fn weighed_card(
     requires { IsSoundStats q.now stats.now }
     ensures { IfOk result (λ e. formula e ≡ Times (Constant weight) (card_formula q.now stats.now set)) }
 {
-    let made = product(alloc, Expr::Num(weight), card_expr(alloc, q, stats, set)?)?;
-    Ok(made)
+    product(alloc, Expr::Num(weight), card_expr(alloc, q, stats, set)?)
 }
 
 /// What the rows that come out cost, where they are those of this set of places.
@@ -107,8 +104,7 @@ fn out_expr(alloc: Global, q: &Query, stats: &Stats, set: u8) -> Result<Expr, Al
     requires { IsSoundStats q.now stats.now }
     ensures { IfOk result (λ e. formula e ≡ out_formula q.now stats.now set) }
 {
-    let made = weighed_card(alloc, q, stats, u128::from(stats.weights().out), set)?;
-    Ok(made)
+    weighed_card(alloc, q, stats, u128::from(stats.weights().out), set)
 }
 
 /// One descent in an index of the place, and the rows of this selectivity that it finds.
@@ -119,8 +115,7 @@ fn found_expr(alloc: Global, stats: &Stats, place: u8, next: u8) -> Result<Expr,
     let descent = Expr::Num(look_up_cost(stats, place, 0));
     let weight = Expr::Num(u128::from(stats.weights().fetch));
     let rows = product(alloc, weight, Expr::Sel(next))?;
-    let made = sum(alloc, descent, rows)?;
-    Ok(made)
+    sum(alloc, descent, rows)
 }
 
 /// What one run of an index range scan costs, for this predicate on the place.
@@ -138,8 +133,7 @@ fn range_expr(
 {
     if is_selected(q, pred) {
         let next = count_selectivities(&q.preds()[..usize::from(pred)]);
-        let made = found_expr(alloc, stats, place, next as u8)?;
-        Ok(made)
+        found_expr(alloc, stats, place, next as u8)
     } else {
         let matching = stats.matching(pred);
         Ok(Expr::Num(look_up_cost(stats, place, matching)))
@@ -154,10 +148,7 @@ fn unit_expr(alloc: Global, q: &Query, stats: &Stats, access: Access) -> Result<
 {
     match access {
         Access::Seq(place) => Ok(Expr::Num(scan_cost(stats, place))),
-        Access::Range(place, _, pred) => {
-            let made = range_expr(alloc, q, stats, place, pred)?;
-            Ok(made)
-        }
+        Access::Range(place, _, pred) => { range_expr(alloc, q, stats, place, pred) }
         Access::Full(place, _) => {
             let rows = stats.rows(place);
             Ok(Expr::Num(look_up_cost(stats, place, rows)))
@@ -179,10 +170,7 @@ fn run_expr(
     ensures { IfOk result (λ e. formula e ≡ run_formula q.now stats.now step) }
 {
     match step {
-        StepKind::Loop(access) => {
-            let made = unit_expr(alloc, q, stats, access)?;
-            Ok(made)
-        }
+        StepKind::Loop(access) => { unit_expr(alloc, q, stats, access) }
         StepKind::Probe(place, edge) => {
             let found = edge_fan(q, stats, place, edge);
             Ok(Expr::Num(look_up_cost(stats, place, found)))
@@ -207,8 +195,7 @@ fn step_expr(
     let before = card_expr(alloc, q, stats, set)?;
     let runs = product(alloc, before, run_expr(alloc, q, stats, set, step)?)?;
     let after = with_place(set, step_place(step));
-    let made = sum(alloc, runs, out_expr(alloc, q, stats, after)?)?;
-    Ok(made)
+    sum(alloc, runs, out_expr(alloc, q, stats, after)?)
 }
 
 /// What a hash join adds to the costs of its two sides, of these places.
@@ -230,8 +217,7 @@ fn join_expr(
     let weight = Expr::Num(u128::from(stats.weights().hash));
     let hashed = product(alloc, weight, both)?;
     let after = with_places(left, right);
-    let made = sum(alloc, hashed, out_expr(alloc, q, stats, after)?)?;
-    Ok(made)
+    sum(alloc, hashed, out_expr(alloc, q, stats, after)?)
 }
 
 /// What it costs to sort the rows of the set.
@@ -239,8 +225,7 @@ fn sort_expr(alloc: Global, q: &Query, stats: &Stats, set: u8) -> Result<Expr, A
     requires { IsSoundStats q.now stats.now }
     ensures { IfOk result (λ e. formula e ≡ sort_formula q.now stats.now set) }
 {
-    let made = weighed_card(alloc, q, stats, comparisons(q, stats, set), set)?;
-    Ok(made)
+    weighed_card(alloc, q, stats, comparisons(q, stats, set), set)
 }
 
 /// The cost of a plan, and its places.
@@ -313,19 +298,16 @@ fn plan_costing(alloc: Global, q: &Query, stats: &Stats, p: &Plan) -> Result<Cos
         }
         Plan::Loop(outer, access) => {
             let below = plan_costing(alloc, q, stats, outer)?;
-            let made = after_step(alloc, q, stats, below, StepKind::Loop(*access))?;
-            Ok(made)
+            after_step(alloc, q, stats, below, StepKind::Loop(*access))
         }
         Plan::Probe(outer, place, edge) => {
             let below = plan_costing(alloc, q, stats, outer)?;
-            let made = after_step(alloc, q, stats, below, StepKind::Probe(*place, *edge))?;
-            Ok(made)
+            after_step(alloc, q, stats, below, StepKind::Probe(*place, *edge))
         }
         Plan::Hash(outer, inner, _) => {
             let left = plan_costing(alloc, q, stats, outer)?;
             let right = plan_costing(alloc, q, stats, inner)?;
-            let made = after_join(alloc, q, stats, left, right)?;
-            Ok(made)
+            after_join(alloc, q, stats, left, right)
         }
         Plan::Sort(outer) => {
             let below = plan_costing(alloc, q, stats, outer)?;
@@ -351,8 +333,7 @@ fn grouped_expr(
 {
     let below = plan_costing(alloc, q, stats, p)?;
     let rows = weighed_card(alloc, q, stats, u128::from(weight), below.set)?;
-    let made = sum(alloc, below.cost, rows)?;
-    Ok(made)
+    sum(alloc, below.cost, rows)
 }
 
 /// The formula of a plan under its top.
@@ -368,14 +349,8 @@ fn top_expr(alloc: Global, q: &Query, stats: &Stats, p: &Top) -> Result<Expr, Al
             let made = plan_costing(alloc, q, stats, plan)?;
             Ok(made.cost)
         }
-        Top::SortedGroups(plan) => {
-            let made = grouped_expr(alloc, q, stats, weights.row, plan)?;
-            Ok(made)
-        }
-        Top::HashGroups(plan) => {
-            let made = grouped_expr(alloc, q, stats, weights.hash, plan)?;
-            Ok(made)
-        }
+        Top::SortedGroups(plan) => { grouped_expr(alloc, q, stats, weights.row, plan) }
+        Top::HashGroups(plan) => { grouped_expr(alloc, q, stats, weights.hash, plan) }
     }
 }
 
