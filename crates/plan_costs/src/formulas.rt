@@ -4,6 +4,7 @@
 //! a nested loop: its access is of a place that the outer side doesn't have, so no selectivity is in both.
 ghost use Rattle.std.specs.Prelude.{◌≡◌, ◌<◌, ◌≤◌, ◌+◌, ◌*◌, ◌^◌, ℕ, List, IfOk, IsTrue, length, if◌then◌else◌};
 ghost use Rattle.row_values.specs.Statements.{IsSoundQuery, selectivity_count};
+ghost use Rattle.row_values.specs.declared.statement.TheConstants.{SELECTIVITY_LIMIT};
 ghost use Rattle.plan_trees.specs.PlaceSets.{are_disjoint, has, one};
 ghost use Rattle.plan_trees.specs.PlanSpace.{IsValidAccess, IsValidPlan, IsValidStep, IsValidTop};
 ghost use Rattle.plan_trees.specs.Statistics.{IsSoundStats, selectivity_places};
@@ -61,7 +62,7 @@ fn with_selectivity(
 
 /// The expression times the selectivities of the predicates on the places of the set.
 fn with_selectivities(alloc: Global, e: Expr, preds: &[Pred], set: u8) -> Result<Expr, AllocError>
-    requires { selectivity_count preds.now ≤ 8 }
+    requires { selectivity_count preds.now ≤ SELECTIVITY_LIMIT }
     ensures { IfOk result (λ made. formula made
         ≡ selected set 0 (formula e) (selectivity_places preds.now)) }
 {
@@ -148,7 +149,7 @@ fn unit_expr(alloc: Global, q: &Query, stats: &Stats, access: Access) -> Result<
 {
     match access {
         Access::Seq(place) => Ok(Expr::Num(scan_cost(stats, place))),
-        Access::Range(place, _, pred) => { range_expr(alloc, q, stats, place, pred) }
+        Access::Range(place, _, pred) => range_expr(alloc, q, stats, place, pred),
         Access::Full(place, _) => {
             let rows = stats.rows(place);
             Ok(Expr::Num(look_up_cost(stats, place, rows)))
@@ -156,21 +157,15 @@ fn unit_expr(alloc: Global, q: &Query, stats: &Stats, access: Access) -> Result<
     }
 }
 
-/// What one run of a step costs for each row so far: a run of its access, or a look-up.
-fn run_expr(
-    alloc: Global,
-    q: &Query,
-    stats: &Stats,
-    set: u8,
-    step: StepKind,
-) -> Result<Expr, AllocError>
+/// What a step costs for each row so far: a run of its access, or a look-up.
+fn run_expr(alloc: Global, q: &Query, stats: &Stats, step: StepKind) -> Result<Expr, AllocError>
     requires query { IsSoundQuery q.now }
     requires sound { IsSoundStats q.now stats.now }
-    requires valid { IsValidStep q.now stats.now.indexed set step }
+    requires valid { (set : ℕ) × IsValidStep q.now stats.now.indexed set step }
     ensures { IfOk result (λ e. formula e ≡ run_formula q.now stats.now step) }
 {
     match step {
-        StepKind::Loop(access) => { unit_expr(alloc, q, stats, access) }
+        StepKind::Loop(access) => unit_expr(alloc, q, stats, access),
         StepKind::Probe(place, edge) => {
             let found = edge_fan(q, stats, place, edge);
             Ok(Expr::Num(look_up_cost(stats, place, found)))
@@ -193,7 +188,7 @@ fn step_expr(
     ensures { IfOk result (λ e. formula e ≡ step_formula q.now stats.now set step) }
 {
     let before = card_expr(alloc, q, stats, set)?;
-    let runs = product(alloc, before, run_expr(alloc, q, stats, set, step)?)?;
+    let runs = product(alloc, before, run_expr(alloc, q, stats, step)?)?;
     let after = with_place(set, step_place(step));
     sum(alloc, runs, out_expr(alloc, q, stats, after)?)
 }
@@ -349,8 +344,8 @@ fn top_expr(alloc: Global, q: &Query, stats: &Stats, p: &Top) -> Result<Expr, Al
             let made = plan_costing(alloc, q, stats, plan)?;
             Ok(made.cost)
         }
-        Top::SortedGroups(plan) => { grouped_expr(alloc, q, stats, weights.row, plan) }
-        Top::HashGroups(plan) => { grouped_expr(alloc, q, stats, weights.hash, plan) }
+        Top::SortedGroups(plan) => grouped_expr(alloc, q, stats, weights.row, plan),
+        Top::HashGroups(plan) => grouped_expr(alloc, q, stats, weights.hash, plan),
     }
 }
 

@@ -1,6 +1,7 @@
 use Rattle.std.proofs.Common.{ℕ, ◌≡◌, ◌≤◌, ◌<◌, ◌+◌, true, false, List, ◌∷◌, length, drop, slice_index_or, if◌then◌else◌, ap, sym, ◌∙◌, refl, arith}
 use Rattle.std.proofs.lemmas.List.{drop_more}
 use Rattle.row_values.specs.Statements.{is_parameterised, selectivity_count}
+use Rattle.row_values.specs.declared.statement.TheConstants.{SELECTIVITY_LIMIT}
 use Rattle.row_values.specs.declared.statement.Pred.{Pred}
 use Rattle.plan_trees.specs.PlaceSets.{has}
 use Rattle.plan_trees.specs.Statistics.{selectivity_places}
@@ -21,8 +22,8 @@ fixed : (set next : ℕ) (f : Formula) (pred : Pred) (preds : List Pred) → is_
 fixed set next f pred preds e = rw e refl
 
 with_one : (set i next : ℕ) (f g whole : Formula) (pred : Pred) (preds : List Pred) → i < length preds → pred ≡ slice_index_or preds i pred → is_parameterised pred ≡ true → g ≡ (if has set pred.at.place then Times f (Selectivity next) else f)
-    → (next + selectivity_count (drop i preds) ≤ 8) × (selected set next f (selectivity_places (drop i preds)) ≡ whole)
-    → (next + 1 + selectivity_count (drop (i + 1) preds) ≤ 8) × (selected set (next + 1) g (selectivity_places (drop (i + 1) preds)) ≡ whole)
+    → (next + selectivity_count (drop i preds) ≤ SELECTIVITY_LIMIT) × (selected set next f (selectivity_places (drop i preds)) ≡ whole)
+    → (next + 1 + selectivity_count (drop (i + 1) preds) ≤ SELECTIVITY_LIMIT) × (selected set (next + 1) g (selectivity_places (drop (i + 1) preds)) ≡ whole)
 with_one set i next f g whole pred preds less here e same inv =
     let count : selectivity_count (drop i preds) ≡ 1 + selectivity_count (drop (i + 1) preds) = count_at i pred preds less here ∙ ap (λ b. (if b then 1 else 0) + selectivity_count (drop (i + 1) preds)) e in
     let room = inv.0 in (
@@ -31,8 +32,8 @@ with_one set i next f g whole pred preds less here e same inv =
     )
 
 without : (set i next : ℕ) (f whole : Formula) (pred : Pred) (preds : List Pred) → i < length preds → pred ≡ slice_index_or preds i pred → is_parameterised pred ≡ false
-    → (next + selectivity_count (drop i preds) ≤ 8) × (selected set next f (selectivity_places (drop i preds)) ≡ whole)
-    → (next + selectivity_count (drop (i + 1) preds) ≤ 8) × (selected set next f (selectivity_places (drop (i + 1) preds)) ≡ whole)
+    → (next + selectivity_count (drop i preds) ≤ SELECTIVITY_LIMIT) × (selected set next f (selectivity_places (drop i preds)) ≡ whole)
+    → (next + selectivity_count (drop (i + 1) preds) ≤ SELECTIVITY_LIMIT) × (selected set next f (selectivity_places (drop (i + 1) preds)) ≡ whole)
 without set i next f whole pred preds less here e inv =
     let count : selectivity_count (drop i preds) ≡ 0 + selectivity_count (drop (i + 1) preds) = count_at i pred preds less here ∙ ap (λ b. (if b then 1 else 0) + selectivity_count (drop (i + 1) preds)) e in
     let room = inv.0 in
