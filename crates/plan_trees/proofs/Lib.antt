@@ -1,5 +1,6 @@
 pub mod AccessLaws
 pub mod Bits
+pub mod ListLaws
 pub mod NameLaws
 pub mod PieceLaws
 pub mod PlaceCounts

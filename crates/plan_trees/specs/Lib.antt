@@ -1,4 +1,5 @@
 pub mod Indexes
+pub mod Lists
 pub mod Padded
 pub mod PlaceSets
 pub mod PlanSpace

@@ -5,6 +5,7 @@
 #![tactic(auto)]
 
 pub mod laws;
+mod listing;
 mod place_sets;
 mod plans;
 mod printing;
@@ -13,13 +14,17 @@ mod selectivities;
 mod statistics;
 mod validity;
 
+pub use listing::{accesses, hash_join_edge, steps};
 pub use place_sets::{all_places, are_disjoint, has_place, one_place, with_place, with_places};
 pub use plans::{Access, Plan, StepKind, Top, place_read, same, step_place};
 pub use printing::print_plan;
 pub use reading::{NESTING_LIMIT, PlanFault, read_plan};
 pub use selectivities::Vector;
 pub use statistics::{Indexed, Stats, Weights};
-pub use validity::{edge_column, is_valid_access, is_valid_hash_join, is_valid_step, valid};
+pub use validity::{
+    edge_column, groups_rows, has_wanted, is_sorted, is_sorted_access, is_valid_access,
+    is_valid_hash_join, is_valid_step, valid, wants_some_order,
+};
 
 #[cfg(test)]
 mod tests;

@@ -7,7 +7,7 @@ ghost use Rattle.std.specs.Option.{option_map};
 ghost use Rattle.plan_trees.specs.Indexes.{has_index};
 ghost use Rattle.row_values.specs.Statements.{IsColumn};
 ghost use Rattle.plan_trees.specs.PlaceSets.{all_below, one};
-ghost use Rattle.plan_trees.specs.PlanSpace.{IsValidAccess, IsValidHashJoin, IsValidStep, IsValidPlan, IsValidTop, SuitsStatement, ascending, column_of, column_in, joins_sets, joins_to, has_all_keys, is_grouped, is_only_key, is_sorted_access, is_sorted_plan, wanted_order, wants_order};
+ghost use Rattle.plan_trees.specs.PlanSpace.{IsValidAccess, IsValidHashJoin, IsValidStep, IsValidPlan, IsValidTop, SuitsStatement, ascending, column_of, column_in, joins_sets, joins_to, has_all_keys, is_grouped, is_only_key, is_sorted_access as gives_wanted_order, is_sorted_plan, wanted_order, wants_order};
 ghost use Rattle.plan_trees.specs.Trees.{place_entering, places_of, plan_below, top_tree, tree};
 
 use crate::place_sets::{all_places, are_disjoint, has_place, one_place, with_place, with_places};
@@ -16,14 +16,14 @@ use crate::statistics::Indexed;
 use row_values::{ColRef, Edge, OrderKey, PLACE_LIMIT, Query};
 
 /// Whether the statement groups its rows.
-fn groups_rows(q: &Query) -> bool
+pub fn groups_rows(q: &Query) -> bool
     ensures { result ≡ is_grouped q.now }
 {
     !q.groups().is_empty()
 }
 
 /// Whether the statement wants an order.
-fn wants_some_order(q: &Query) -> bool
+pub fn wants_some_order(q: &Query) -> bool
     ensures { result ≡ wants_order q.now }
 {
     groups_rows(q) || !q.order().is_empty()
@@ -151,8 +151,8 @@ fn is_wanted(q: &Query, at: ColRef) -> bool
 }
 
 /// Whether the access gives the wanted order.
-fn is_sorted_base(q: &Query, access: Access) -> bool
-    ensures { result ≡ is_sorted_access q.now access }
+pub fn is_sorted_access(q: &Query, access: Access) -> bool
+    ensures { result ≡ gives_wanted_order q.now access }
 {
     match access {
         Access::Seq(_) => false,
@@ -162,11 +162,11 @@ fn is_sorted_base(q: &Query, access: Access) -> bool
 }
 
 /// Whether the plan's rows come in the wanted order.
-fn is_sorted(q: &Query, p: &Plan) -> bool
+pub fn is_sorted(q: &Query, p: &Plan) -> bool
     ensures { result ≡ is_sorted_plan q.now (tree p.now) }
 {
     match p {
-        Plan::Base(access) => is_sorted_base(q, *access),
+        Plan::Base(access) => is_sorted_access(q, *access),
         Plan::Loop(outer, _) => is_sorted(q, outer),
         Plan::Probe(outer, _, _) => is_sorted(q, outer),
         Plan::Hash(outer, _, _) => is_sorted(q, outer),
@@ -199,7 +199,7 @@ fn has_keys(set: u8, order: &[OrderKey]) -> bool
 }
 
 /// Whether the set has the place of each wanted key.
-fn has_wanted(q: &Query, set: u8) -> bool
+pub fn has_wanted(q: &Query, set: u8) -> bool
     ensures { result ≡ has_all_keys set (wanted_order q.now) }
 {
     if groups_rows(q) {
