@@ -302,3 +302,7 @@ sort_below_limit q s vector set k = let m = sort_le q s vector set k in omega ar
 pub out_below_limit : (q : Statement) (s : Statistics) (vector : List ℕ) (set : ℕ) → AreSized q s vector → s.weights.out * card_of q s vector set < 2 ^ 124
 unfolding most
 out_below_limit q s vector set k = let m = weighed s.weights.out _ most k.weights.out.high (card_most q s vector set k) in omega arith
+
+pub weighed_below_limit : (q : Statement) (s : Statistics) (vector : List ℕ) (set weight : ℕ) → AreSized q s vector → weight ≤ 1000 → weight * card_of q s vector set < 2 ^ 124
+unfolding most
+weighed_below_limit q s vector set weight k light = let m = weighed weight _ most light (card_most q s vector set k) in omega arith

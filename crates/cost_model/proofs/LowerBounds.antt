@@ -11,16 +11,18 @@ use Rattle.cost_model.specs.Costs.{step_cost, join_cost, sort_cost, plan_cost, t
 use Rattle.cost_model.specs.LeastCost.{Table, AtMost, IsPlaceSet, IsPlanOf, IsTightCell, IsTight, IsFeasible, FitsTable, whole_set}
 use Rattle.cost_model.proofs.Sets.{set_of_access, set_after, set_of_both, set_of_plan}
 
-at_most_more : (o : Option ℕ) (m n : ℕ) → AtMost o m → m ≤ n → AtMost o n
+-- infinity or a number stays at most a larger number
+pub at_most_more : (o : Option ℕ) (m n : ℕ) → AtMost o m → m ≤ n → AtMost o n
 at_most_more None m n h k = h
 at_most_more (Some x) m n h k = omega arith
 
-not_sorted : {A : Type 0} → IsTrue false → A
+pub not_sorted : {A : Type 0} → IsTrue false → A
 not_sorted h = absurd (true≢false (sym h))
 
 -- Feasible tables are below.
 
-below_plan : {q : Statement} {s : Statistics} {vector : List ℕ} {table : Table} (sorted : Bool) (plan : Tree) → IsFeasible q s vector table → IsValidPlan q s.indexed plan
+-- no valid plan undercuts its cell of a feasible table
+pub below_plan : {q : Statement} {s : Statistics} {vector : List ℕ} {table : Table} (sorted : Bool) (plan : Tree) → IsFeasible q s vector table → IsValidPlan q s.indexed plan
     → (IsTrue sorted → IsSortedPlan q plan) → AtMost (table sorted (places_of plan)) (plan_cost q s vector plan)
 below_plan sorted (Base access) f v e = f.access sorted access v e
 below_plan {q} {s} sorted (Join outer step) f v e = f.step sorted (places_of outer) _ step (set_of_plan q s.indexed outer v.0) v.1 (below_plan sorted outer f v.0 e)
