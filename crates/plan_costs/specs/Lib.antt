@@ -1,1 +1,3 @@
+pub mod BestPlans
 pub mod Formulas
+pub mod LowerBounds

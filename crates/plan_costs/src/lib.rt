@@ -1,20 +1,25 @@
 //! What plans cost, computed: exact, on the scale of the cost model, and never past 128 bits.
 //!
-//! Each call meets an equation of the cost model. Only `expr_of` and `poly_of` take memory: they give a plan's whole
-//! cost as a function of the selectivities.
+//! Each call that computes a cost meets an equation of the cost model and takes no memory; `expr_of` and `poly_of` give a
+//! plan's whole cost as a function of the selectivities. Beside them stand the forms in which an optimiser answers: the
+//! best plan, and the potentials of all sets of places.
 #![tactic(auto)]
 
 mod accesses;
 mod cardinalities;
 mod formulas;
+mod planner;
 mod polynomials;
+mod potentials;
 mod sorts;
 mod steps;
 
 pub use accesses::access_unit;
 pub use cardinalities::card;
 pub use formulas::expr_of;
+pub use planner::{Best, Planner};
 pub use polynomials::poly_of;
+pub use potentials::{Cell, Potentials};
 pub use sorts::sort_cost;
 pub use steps::{join_cost, step_cost};
 
