@@ -1,0 +1,9 @@
+pub mod Cheaper
+pub mod CostSums
+pub mod Filling
+pub mod Finishing
+pub mod Offers
+pub mod Parts
+pub mod Sets
+pub mod Sorting
+pub mod Wholes

@@ -1,0 +1,4 @@
+pub mod Found
+pub mod Potentials
+pub mod Search
+pub mod Tops
