@@ -15,3 +15,6 @@ mod sorts;
 mod tops;
 
 pub use optimizer::{Optimizer, optimise};
+
+#[cfg(test)]
+mod tests;
