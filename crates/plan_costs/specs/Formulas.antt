@@ -52,7 +52,8 @@ run_formula q s (Loop access) = unit_formula q s access
 run_formula q s (Probe place edge) = Constant (look_up_cost s place (edge_fan q s place edge))
 
 abbrev pub step_formula : Statement → Statistics → ℕ → StepKind → Formula
-step_formula q s set step = Plus (Times (card_formula q s set) (run_formula q s step)) (out_formula q s (set + one (place_entering step)))
+step_formula q s set step =
+    Plus (Times (card_formula q s set) (run_formula q s step)) (out_formula q s (set + one (place_entering step)))
 
 abbrev pub join_formula : Statement → Statistics → ℕ → ℕ → Formula
 join_formula q s left right =
