@@ -1,5 +1,5 @@
 -- The cheaper of two plans is neither of both undercut, and is one of them.
-use Rattle.std.proofs.Common.{ℕ, ◌≡◌, ◌≤◌, ◌<◌, Bool, true, false, nat_lt, Option, Some, None, IfSome, refl, sym, arith, true≢false, if◌then◌else◌}
+use Rattle.std.proofs.Common.{ℕ, ◌≡◌, ◌≤◌, Bool, true, false, Option, Some, None, IfSome, refl, arith, true≢false, if◌then◌else◌}
 use Rattle.std.proofs.lemmas.Bool.Decides.{nat_tests}
 use Rattle.cost_model.specs.LeastCost.{AtMost}
 use Rattle.cost_model.proofs.LowerBounds.{at_most_more}

@@ -1,9 +1,8 @@
 -- No sum of costs of the search passes 128 bits.
-use Rattle.std.proofs.Common.{ℕ, ◌≡◌, ◌≤◌, ◌<◌, ◌+◌, ◌*◌, ◌^◌, Bool, true, false, List, length, slice_index_or, Option, Some, None, IfSome, ap, sym, subst, arith}
+use Rattle.std.proofs.Common.{ℕ, ◌≡◌, ◌≤◌, ◌<◌, ◌+◌, ◌*◌, ◌^◌, Bool, true, false, List, slice_index_or, Option, Some, None, IfSome, ap, sym, subst, arith}
 use Rattle.row_values.specs.Statements.{Statement, IsSoundQuery}
 use Rattle.plan_trees.specs.declared.plans.Access.{Access}
 use Rattle.plan_trees.specs.declared.plans.StepKind.{StepKind}
-use Rattle.plan_trees.specs.PlaceSets.{one}
 use Rattle.plan_trees.specs.PlanSpace.{IsValidAccess, IsValidStep}
 use Rattle.plan_trees.specs.Statistics.{Statistics, IsSoundStats, IsSoundVector}
 use Rattle.plan_trees.specs.Trees.{Base}
@@ -14,7 +13,7 @@ use Rattle.cost_model.specs.Cardinalities.{card_of}
 use Rattle.cost_model.proofs.SoundNumbers.{are_sized}
 use Rattle.join_optimizer.specs.declared.found.Cheapest.{Cheapest}
 use Rattle.join_optimizer.specs.declared.found.Found.{Found}
-use Rattle.join_optimizer.specs.Found.{AreFound, IsFound, Priced, cost_in, nothing, plan_in, seen, table_of}
+use Rattle.join_optimizer.specs.Found.{AreFound, IsFound, cost_in, nothing, plan_in, seen, table_of}
 use Rattle.join_optimizer.specs.Search.{AreCheapest}
 
 fits_by : (q : Statement) (s : Statistics) (vector : List ℕ) (sorted : Bool) (set : ℕ) (o : Option Found) → IsSoundQuery q → IsSoundStats q s → IsSoundVector q s vector → IfSome (seen o) (IsFound q s vector sorted set) → IfSome o (λ found. found.cost < 2 ^ 124)

@@ -1,22 +1,21 @@
 -- The cells of all sets: no plan undercuts them.
-use Rattle.std.proofs.Common.{ℕ, zero, suc, ◌≡◌, ◌≤◌, ◌<◌, ◌+◌, ◌-◌, ◌*◌, ◌^◌, ◌⊎◌, inl, inr, Bool, true, false, IsTrue, List, [], ◌∷◌, ◌++◌, length, slice_index_or, Option, Some, None, IsSome, IfSome, refl, ap, sym, ◌∙◌, subst, arith, true≢false, pow_pos}
-use Rattle.std.proofs.Math.Nat.{div-eq_of_lt}
-use Rattle.std.proofs.Math.Pow.{pow-lt}
+use Rattle.std.proofs.Common.{ℕ, zero, suc, ◌≡◌, ◌<◌, ◌+◌, ◌*◌, ◌^◌, ◌⊎◌, inl, inr, Bool, true, false, List, [], ◌∷◌, ◌++◌, length, slice_index_or, Option, Some, None, IfSome, refl, ap, sym, ◌∙◌, subst, arith, pow_pos}
 use Rattle.std.proofs.lemmas.Bool.{cases_lt}
 use Rattle.std.proofs.lemmas.List.{get_or_append_left, get_or_push, length_push}
 use Rattle.row_values.specs.Statements.{Statement}
-use Rattle.plan_trees.specs.PlaceSets.{has, one}
+use Rattle.plan_trees.specs.PlaceSets.{one}
 use Rattle.plan_trees.specs.Statistics.{Statistics}
-use Rattle.plan_trees.specs.Trees.{Tree, place_of, place_entering, places_of}
+use Rattle.plan_trees.specs.Trees.{Tree, place_of, place_entering}
 use Rattle.plan_trees.proofs.SoundParts.{access_in_range, step_in_range}
 use Rattle.cost_model.specs.Costs.{access_unit, join_cost, plan_cost, sort_cost, step_cost}
 use Rattle.cost_model.specs.declared.scale.TheConstants.{COST_SCALE}
-use Rattle.cost_model.specs.LeastCost.{AtMost, Table, IsCheapest, IsFeasible, IsPlaceSet, IsPlanOf, IsTightCell}
+use Rattle.cost_model.specs.LeastCost.{AtMost, Table, IsFeasible, IsPlanOf, IsTightCell}
 use Rattle.cost_model.proofs.LowerBounds.{below_plan}
 use Rattle.cost_model.proofs.Sets.{set_of_access, set_after, set_of_both}
 use Rattle.join_optimizer.specs.declared.found.Cheapest.{Cheapest}
 use Rattle.join_optimizer.specs.Found.{Priced, AreFound, IsFound, cost_in, cost_of, nothing, plan_in, table_of}
 use Rattle.join_optimizer.specs.Search.{AreCheapest, Costs, IsFeasibleAt, Offered, TakesBetween, TakesPlace, TakesSort, TakesSplit}
+use Rattle.join_optimizer.proofs.Offers.{below_next}
 use Rattle.join_optimizer.proofs.Parts.{place_stays, split_stays}
 
 -- One set.
@@ -59,9 +58,6 @@ kept cells best sorted set less = ap (λ (x : Cheapest). cost_in x sorted) (get_
 
 added : (cells : List Cheapest) (best : Cheapest) (count : ℕ) (sorted : Bool) → length cells ≡ count → cost_in best sorted ≡ table_of (cells ++ best ∷ []) sorted count
 added cells best count sorted e = ap (λ (x : Cheapest). cost_in x sorted) (sym (get_or_push cells best nothing count e))
-
-below_next : (k n : ℕ) → k < n + 1 → (k < n) ⊎ (k ≡ n)
-below_next k n h = grind (arith, cases_lt)
 
 feasible_by : (q : Statement) (s : Statistics) (vector : List ℕ) (cells : List Cheapest) (count : ℕ) (best : Cheapest) → AreCheapest q s vector cells count → IsFeasibleAt q s vector (table_of cells) count (cost_in best)
     → (set : ℕ) → 0 < set → (set < count) ⊎ (set ≡ count) → IsFeasibleAt q s vector (table_of (cells ++ best ∷ [])) set (λ sorted. table_of (cells ++ best ∷ []) sorted set)

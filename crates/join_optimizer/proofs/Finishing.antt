@@ -1,14 +1,14 @@
 -- The finished plan of least cost.
-use Rattle.std.proofs.Common.{ℕ, ◌≡◌, ◌≤◌, ◌<◌, ◌+◌, ◌*◌, Bool, true, false, nat_lt, IsTrue, List, Option, Some, None, IfSome, refl, ap, sym, ◌∙◌, subst, arith, true≢false, le_refl, if◌then◌else◌}
+use Rattle.std.proofs.Common.{ℕ, ◌≡◌, ◌≤◌, ◌+◌, ◌*◌, Bool, true, false, nat_lt, List, Option, Some, None, IfSome, refl, sym, ◌∙◌, subst, arith, true≢false, le_refl, if◌then◌else◌}
 use Rattle.std.proofs.lemmas.Bool.Decides.{nat_tests}
 use Rattle.row_values.specs.Statements.{Statement}
-use Rattle.plan_trees.specs.PlanSpace.{IsValidTop, is_grouped, wants_order}
+use Rattle.plan_trees.specs.PlanSpace.{is_grouped, wants_order}
 use Rattle.plan_trees.specs.Statistics.{Statistics}
 use Rattle.plan_trees.specs.Trees.{Rows, SortedGroups, HashGroups}
 use Rattle.cost_model.specs.Cardinalities.{card_of}
-use Rattle.cost_model.specs.LeastCost.{AtMost, FitsTable, whole_set}
+use Rattle.cost_model.specs.LeastCost.{AtMost, whole_set}
 use Rattle.join_optimizer.specs.declared.found.Cheapest.{Cheapest}
-use Rattle.join_optimizer.specs.Found.{Priced, AreFound, IsFound, cost_in, cost_of, plan_in}
+use Rattle.join_optimizer.specs.Found.{Priced, AreFound, IsFound, cost_of, plan_in}
 use Rattle.join_optimizer.specs.Tops.{PricedTop, IsTopOf, IsCheapestTop, as_rows, cheaper_top, in_hash_groups, in_sorted_groups}
 
 -- a top over a plan, no dearer than any number that the plan is at most, with so much more

@@ -1,6 +1,5 @@
 -- What is offered to the cell of a set, one after another.
-use Rattle.std.proofs.Common.{ℕ, ◌≡◌, ◌≤◌, ◌<◌, ◌+◌, ◌⊎◌, inl, inr, Bool, true, false, List, length, slice_get, slice_index_or, Option, Some, None, IfSome, refl, sym, ◌∙◌, subst, subst₂, arith, lt_of_lt_of_le}
-use Rattle.std.specs.List.{Contains}
+use Rattle.std.proofs.Common.{ℕ, ◌≡◌, ◌≤◌, ◌<◌, ◌+◌, ◌⊎◌, inl, inr, Bool, true, false, List, length, slice_get, slice_index_or, Option, Some, IfSome, sym, subst, subst₂, arith, lt_of_lt_of_le}
 use Rattle.std.proofs.lemmas.Bool.{cases_lt}
 use Rattle.std.proofs.lemmas.List.Elements.{Contains-get_or}
 use Rattle.std.proofs.lemmas.Option.{slice_get-get_or}
@@ -36,7 +35,7 @@ unchanged q s vector set Taken cell found taken = record { keeps = λ sorted n h
 abbrev pub StaysTaken : {A : Type 0} → (A → Costs → Type 0) → Type 0
 StaysTaken {A} Takes = (item : A) (before after : Costs) → Keeps before after → Takes item before → Takes item after
 
-below_next : (k n : ℕ) → k < n + 1 → (k < n) ⊎ (k ≡ n)
+pub below_next : (k n : ℕ) → k < n + 1 → (k < n) ⊎ (k ≡ n)
 below_next k n h = grind (arith, cases_lt)
 
 -- The items of a list.

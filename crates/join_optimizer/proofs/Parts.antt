@@ -1,23 +1,23 @@
 -- Accesses, steps and hash joins as offers.
-use Rattle.std.proofs.Common.{ℕ, ◌≡◌, ◌≤◌, ◌<◌, ◌+◌, ◌-◌, ◌*◌, ◌^◌, Bool, true, false, IsTrue, List, length, slice_index_or, Option, Some, None, IfSome, refl, ap, sym, ◌∙◌, subst, subst₂, arith, true≢false, le_refl, if◌then◌else◌, IsSomeAnd}
-use Rattle.row_values.specs.Statements.{Statement, IsSoundQuery}
+use Rattle.std.proofs.Common.{ℕ, ◌≡◌, ◌<◌, ◌+◌, ◌*◌, Bool, true, false, IsTrue, List, Option, Some, None, IfSome, refl, ap, sym, ◌∙◌, subst, subst₂, arith, true≢false, le_refl, if◌then◌else◌}
+use Rattle.row_values.specs.Statements.{Statement}
 use Rattle.plan_trees.specs.declared.plans.Access.{Access}
 use Rattle.plan_trees.specs.declared.plans.StepKind.{StepKind}
 use Rattle.plan_trees.specs.PlaceSets.{has, one}
 use Rattle.plan_trees.specs.PlanSpace.{IsValidAccess, IsValidStep, IsValidHashJoin, is_sorted_access}
-use Rattle.plan_trees.specs.Statistics.{Statistics, IsSoundStats, IsSoundVector}
-use Rattle.plan_trees.specs.Trees.{Base, Join, HashJoin, place_of, place_entering}
+use Rattle.plan_trees.specs.Statistics.{Statistics}
+use Rattle.plan_trees.specs.Trees.{Base, place_of, place_entering}
 use Rattle.plan_trees.specs.Lists.{IsAccessOf, IsStepInto}
-use Rattle.cost_model.specs.Costs.{access_unit, step_cost, join_cost, plan_cost}
-use Rattle.cost_model.specs.LeastCost.{AtMost, Table, IsPlanOf}
+use Rattle.cost_model.specs.Costs.{access_unit, step_cost, join_cost}
+use Rattle.cost_model.specs.LeastCost.{AtMost, Table}
 use Rattle.cost_model.specs.declared.scale.TheConstants.{COST_SCALE}
 use Rattle.cost_model.proofs.LowerBounds.{not_sorted}
 use Rattle.cost_model.proofs.Sets.{entering_new}
 use Rattle.join_optimizer.specs.declared.found.Cheapest.{Cheapest}
-use Rattle.join_optimizer.specs.Found.{Priced, AreFound, IsFound, accessed, cheaper, cost_in, cost_of, joined, nothing, plan_in, priced, seen, stepped, table_of}
-use Rattle.join_optimizer.specs.Search.{Costs, Keeps, Offered, TakesAccess, TakesAll, TakesPlace, TakesSplit, TakesStep}
+use Rattle.join_optimizer.specs.Found.{Priced, AreFound, IsFound, accessed, cheaper, cost_in, cost_of, joined, plan_in, priced, seen, stepped}
+use Rattle.join_optimizer.specs.Search.{Costs, Offered, TakesAccess, TakesAll, TakesPlace, TakesSplit, TakesStep}
 use Rattle.join_optimizer.proofs.Offers.{StaysTaken, in_both, offered, unchanged}
-use Rattle.join_optimizer.proofs.Sets.{gained, none_in_empty, within}
+use Rattle.join_optimizer.proofs.Sets.{gained, none_in_empty}
 
 -- Accesses.
 

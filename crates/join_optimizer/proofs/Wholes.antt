@@ -1,5 +1,5 @@
 -- What was found of all sets makes the best plan and the tight table.
-use Rattle.std.proofs.Common.{ℕ, zero, suc, ◌≡◌, ◌≤◌, ◌<◌, ◌+◌, ◌-◌, ◌*◌, ◌^◌, ◌⊎◌, ◌/◌, inl, inr, Bool, true, false, IsTrue, List, [], ◌∷◌, length, map, take, drop, slice_get, slice_index_or, Option, Some, None, IsSome, IfSome, All, unwrap_or, option_and_then, refl, ap, sym, ◌∙◌, subst, arith, true≢false, pow_pos, pow-suc, lt_of_lt_of_le}
+use Rattle.std.proofs.Common.{ℕ, zero, suc, ◌≡◌, ◌≤◌, ◌<◌, ◌+◌, ◌-◌, ◌*◌, ◌^◌, ◌⊎◌, ◌/◌, inl, inr, Bool, true, false, List, [], ◌∷◌, length, map, take, drop, slice_get, slice_index_or, Option, Some, None, IsSome, All, unwrap_or, option_and_then, refl, ap, sym, ◌∙◌, subst, arith, true≢false, pow_pos, pow-suc, lt_of_lt_of_le}
 use Rattle.std.specs.Option.{option_map}
 use Rattle.std.proofs.Math.Nat.{div-eq_of_lt, pow-le-pow_right}
 use Rattle.std.proofs.lemmas.Bool.{cases_lt}
@@ -8,7 +8,7 @@ use Rattle.std.proofs.lemmas.Option.{slice_get-map, slice_get-get_or}
 use Rattle.row_values.specs.Statements.{Statement, IsSoundQuery}
 use Rattle.plan_trees.specs.declared.plans.Access.TheVariants.{Seq}
 use Rattle.plan_trees.specs.declared.plans.StepKind.TheVariants.{Loop}
-use Rattle.plan_trees.specs.PlaceSets.{has, one, all_below}
+use Rattle.plan_trees.specs.PlaceSets.{has, one}
 use Rattle.plan_trees.specs.PlanSpace.{IsValidTop, is_grouped, wants_order}
 use Rattle.plan_trees.specs.Statistics.{Statistics}
 use Rattle.plan_trees.specs.Trees.{TopTree, Rows, SortedGroups, HashGroups, plan_below, top_tree}
@@ -24,7 +24,7 @@ use Rattle.plan_costs.specs.LowerBounds.{LowerBounds}
 use Rattle.plan_costs.specs.BestPlans.{IsBest, in_cell, table_of_cells}
 use Rattle.join_optimizer.specs.declared.found.Cheapest.{Cheapest}
 use Rattle.join_optimizer.specs.declared.found.Found.{Found}
-use Rattle.join_optimizer.specs.Found.{Priced, AreFound, cost_in, cost_of, found_in, nothing, plan_in, seen, table_of}
+use Rattle.join_optimizer.specs.Found.{cost_in, cost_of, found_in, nothing, seen, table_of}
 use Rattle.join_optimizer.specs.Potentials.{numbers}
 use Rattle.join_optimizer.specs.Search.{AreCheapest}
 use Rattle.join_optimizer.specs.Tops.{PricedTop, IsCheapestTop}

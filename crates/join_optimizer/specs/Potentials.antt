@@ -1,5 +1,5 @@
 -- The numbers of what was found.
-use Rattle.std.specs.Prelude.{ℕ, unwrap_or}
+use Rattle.std.specs.Prelude.{unwrap_or}
 use Rattle.plan_costs.specs.declared.potentials.Cell.{Cell}
 use Rattle.join_optimizer.specs.declared.found.Cheapest.{Cheapest}
 use Rattle.join_optimizer.specs.Found.{cost_of, seen}

@@ -3,7 +3,7 @@ use Rattle.std.specs.Prelude.{ℕ, ◌≡◌, ◌+◌, nat_lt, List, Option, Som
 use Rattle.row_values.specs.Statements.{Statement}
 use Rattle.plan_trees.specs.PlanSpace.{IsValidTop}
 use Rattle.plan_trees.specs.Statistics.{Statistics}
-use Rattle.plan_trees.specs.Trees.{Tree, TopTree, Rows, SortedGroups, HashGroups, top_tree}
+use Rattle.plan_trees.specs.Trees.{TopTree, Rows, SortedGroups, HashGroups, top_tree}
 use Rattle.cost_model.specs.Costs.{top_cost}
 use Rattle.cost_model.specs.LeastCost.{FitsTable}
 use Rattle.join_optimizer.specs.declared.found.Cheapest.{Cheapest}

@@ -3,7 +3,7 @@ use Rattle.std.specs.Prelude.{ℕ, zero, suc, ◌≡◌, ◌+◌, ◌^◌, Bool,
 use Rattle.row_values.specs.Statements.{Statement}
 use Rattle.plan_trees.specs.PlanSpace.{IsValidTop}
 use Rattle.plan_trees.specs.Statistics.{Statistics}
-use Rattle.plan_trees.specs.Trees.{TopTree, top_tree}
+use Rattle.plan_trees.specs.Trees.{top_tree}
 use Rattle.cost_model.specs.Costs.{top_cost}
 use Rattle.cost_model.specs.LeastCost.{Table, IsLeastCost, IsTight}
 use Rattle.plan_costs.specs.declared.potentials.Cell.{Cell}

@@ -1,7 +1,7 @@
-use Rattle.std.proofs.Common.{◌≡◌, ◌+◌, ◌-◌, arith, false}
+use Rattle.std.proofs.Common.{◌-◌, arith, false}
 use Rattle.join_optimizer.specs.Found.{table_of}
 use Rattle.join_optimizer.proofs.CostSums.{any_fits, join_below, read_cost, read_found, sorted_fits, two_more_fit}
-use Rattle.join_optimizer.proofs.Parts.{join_offered, join_refused}
+use Rattle.join_optimizer.proofs.Parts.{join_offered}
 use Rattle.join_optimizer.proofs.hash_joins.by_split.Goals as goal
 
 pub take_hash_join-requires : goal.take_hash_join-requires

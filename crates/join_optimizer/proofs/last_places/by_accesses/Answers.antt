@@ -1,4 +1,3 @@
-use Rattle.std.proofs.Common.{arith, sym}
 use Rattle.std.proofs.lemmas.Option.{slice_get-get_or}
 use Rattle.plan_trees.specs.Lists.{IsAccessOf}
 use Rattle.join_optimizer.proofs.Offers.{item_listed, list_all, list_more, list_start, same_list}

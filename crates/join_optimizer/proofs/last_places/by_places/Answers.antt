@@ -1,5 +1,5 @@
 use Rattle.join_optimizer.specs.Found.{table_of}
-use Rattle.join_optimizer.proofs.Offers.{numbers_more, numbers_start}
+use Rattle.join_optimizer.proofs.Offers.{numbers_more}
 use Rattle.join_optimizer.proofs.Parts.{place_stays}
 use Rattle.join_optimizer.proofs.last_places.by_places.Goals as goal
 

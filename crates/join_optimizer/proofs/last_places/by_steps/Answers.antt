@@ -1,4 +1,3 @@
-use Rattle.std.proofs.Common.{arith, sym}
 use Rattle.std.proofs.lemmas.Option.{slice_get-get_or}
 use Rattle.plan_trees.specs.Lists.{IsStepInto}
 use Rattle.join_optimizer.specs.Found.{cost_in}

@@ -1,4 +1,4 @@
-use Rattle.std.proofs.Common.{◌≡◌, ◌∙◌, ℕ, List, IsSome, ap, ap₂, length, refl, slice_index_or, subst, sym}
+use Rattle.std.proofs.Common.{◌∙◌, ℕ, List, IsSome, ap, ap₂, length, refl, slice_index_or, subst, sym}
 use Rattle.row_values.specs.declared.statement.Place.{Place}
 use Rattle.plan_trees.specs.PlaceSets.{all_below}
 use Rattle.plan_trees.specs.PlanSpace.{wants_order}

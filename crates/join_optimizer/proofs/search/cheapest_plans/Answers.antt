@@ -1,4 +1,4 @@
-use Rattle.std.proofs.Common.{◌≡◌, ◌≤◌, ◌<◌, ◌+◌, ◌-◌, ◌^◌, ◌∙◌, List, ap, arith, length, pow_pos, subst}
+use Rattle.std.proofs.Common.{◌≡◌, ◌<◌, ◌-◌, ◌^◌, ◌∙◌, List, ap, arith, length, pow_pos, subst}
 use Rattle.row_values.specs.declared.statement.Place.{Place}
 use Rattle.plan_trees.specs.PlaceSets.{all_below}
 use Rattle.join_optimizer.specs.Search.{AreCheapest}

@@ -1,6 +1,6 @@
 use Rattle.std.proofs.Common.{refl}
 use Rattle.join_optimizer.proofs.CostSums.{any_fits, one_more_fits, sort_below}
-use Rattle.join_optimizer.proofs.Sorting.{order_unseen, order_unwanted, sort_offered}
+use Rattle.join_optimizer.proofs.Sorting.{sort_offered}
 use Rattle.join_optimizer.proofs.sorts.by_sort.Goals as goal
 
 pub take_ordered-requires : goal.take_ordered-requires

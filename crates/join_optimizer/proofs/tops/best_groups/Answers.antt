@@ -1,4 +1,4 @@
-use Rattle.std.proofs.Common.{◌≡◌, ◌<◌, ◌≤◌, ◌*◌, ◌^◌, ◌∙◌, List, ap, ap₂, arith, length}
+use Rattle.std.proofs.Common.{◌≡◌, ◌<◌, ◌*◌, ◌^◌, ◌∙◌, List, ap, ap₂, arith, length}
 use Rattle.row_values.specs.declared.statement.Place.{Place}
 use Rattle.plan_trees.specs.PlaceSets.{all_below}
 use Rattle.plan_trees.specs.declared.statistics.Weights.{Weights}

@@ -1,6 +1,4 @@
-use Rattle.std.proofs.Common.{◌≡◌, refl}
-use Rattle.plan_trees.specs.Lists.{IsAccessOf}
-use Rattle.plan_trees.specs.Trees.{place_of}
+use Rattle.std.proofs.Common.{refl}
 use Rattle.plan_trees.proofs.ListLaws.{gains_pushed}
 use Rattle.plan_trees.proofs.listing.push_access.Goals as goal
 
