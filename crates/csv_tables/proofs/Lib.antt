@@ -1,6 +1,8 @@
 pub mod Decimals
 pub mod Fields
 pub mod Names
+pub mod PackedCells
+pub mod PackedColumns
 pub mod RecordsLeft
 pub mod Rows
 pub mod Sound

@@ -7,6 +7,7 @@ mod cells;
 mod faults;
 mod header;
 mod numbers;
+mod packed;
 mod read;
 mod records;
 mod shape;

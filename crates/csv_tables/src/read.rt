@@ -86,7 +86,8 @@ fn build(
     let _ = records.next(&mut row)?;
     let cells = read_cells(alloc, &columns, row_count, &mut records, &mut row)?;
     let schema = Schema::of(columns).unwrap();
-    Ok(Table::of(schema, row_count, cells))
+    let table = Table::of(alloc, schema, row_count, cells)?;
+    Ok(table)
 }
 
 /// The table that bytes of CSV spell, or the first fault that they have; see `TableFault` for the order.

@@ -1,11 +1,15 @@
 //! Tables: columns and rows, never changed once made, and shared by `Rc`.
 //!
-//! The cells stand in one list, row after row. Every table has at most 2^20 rows and 2^22 cells, and each row
-//! has a value per column, of that column's kind: `IsTable`, which `schema` and `len` give to callers.
-ghost use Rattle.std.specs.Prelude.{◌≡◌, ◌<◌, Some, length};
-ghost use Rattle.csv_tables.specs.Tables.{IsKept, IsTable, cell_at, table_of_cells};
+//! The cells stand in one list, row after row, and those of a column of whole numbers once more as packed numbers.
+//! Every table has at most 2^20 rows and 2^22 cells, and each row has a value per column, of that column's kind:
+//! `IsTable`, which `schema` and `len` give to callers.
+ghost use Rattle.std.specs.Prelude.{◌≡◌, ◌<◌, ◌↔◌, IfOk, IfSome, IsSome, Some, length, slice_get};
+ghost use Rattle.row_values.specs.declared.values.Kind.TheVariants.{Int};
+ghost use Rattle.csv_tables.specs.Tables.{AreNumbers, IsKept, IsTable, cell_at, column_kinds, table_of_cells};
 
-use row_values::{Schema, Value};
+use crate::packed::pack;
+use row_values::{Kind, Schema, Value};
+use std::alloc::{AllocError, Global};
 use std::marker::Model;
 
 /// The most rows of a table: a row's number fits 32 bits, and a product of two tables' rows 64.
@@ -19,29 +23,39 @@ pub struct Table {
     schema: Schema,
     row_count: usize,
     cells: Vec<Value>,
+    /// The numbers of each column of whole numbers; of a column of texts none.
+    packed: Vec<Vec<i64>>,
 }
 
 impl Model for Table {
-    ghost use Rattle.csv_tables.specs.Tables.{TableValue, IsKept, table_of_cells};
+    ghost use Rattle.std.specs.Prelude.{map};
+    ghost use Rattle.csv_tables.specs.Tables.{TableValue, IsHeld, table_of_cells};
 
     ghost Value = { TableValue };
 
     ghost view = { λ t. table_of_cells t.schema t.row_count t.cells.items };
 
-    ghost invariant = { λ t. IsKept t.schema t.row_count t.cells.items };
+    ghost invariant = { λ t. IsHeld t.schema t.row_count t.cells.items (map (λ numbers. numbers.items) t.packed.items) };
 }
 
 impl Table {
-    /// The table of these columns and of so many rows, whose cells are given row after row. It takes no memory.
-    pub(crate) fn of(schema: Schema, row_count: usize, cells: Vec<Value>) -> Table
+    /// The table of these columns and of so many rows, whose cells are given row after row. It packs the numbers.
+    pub(crate) fn of(
+        alloc: Global,
+        schema: Schema,
+        row_count: usize,
+        cells: Vec<Value>,
+    ) -> Result<Table, AllocError>
         requires { IsKept schema row_count cells.items }
-        ensures { result ≡ table_of_cells schema row_count cells.items }
+        ensures { IfOk result (λ table. table ≡ table_of_cells schema row_count cells.items) }
     {
-        Table {
+        let packed = pack(alloc, &schema, row_count, cells.as_slice())?;
+        Ok(Table {
             schema,
             row_count,
             cells,
-        }
+            packed,
+        })
     }
 
     /// The columns in order.
@@ -68,5 +82,17 @@ impl Table {
     {
         let width = self.schema.columns().len();
         &self.cells.as_slice()[row * width + column]
+    }
+
+    /// The numbers of this column, counted from 0, in row order; some exactly where it is a column of whole numbers.
+    pub fn numbers(&self, column: usize) -> Option<&[i64]>
+        requires { column < length self.now.schema }
+        ensures found { IsSome result ↔ slice_get (column_kinds self.now.schema) column ≡ Some Int }
+        ensures value { IfSome result (λ numbers. AreNumbers self.now column numbers.now) }
+    {
+        match self.schema.columns()[column].kind {
+            Kind::Int => Some(self.packed.as_slice()[column].as_slice()),
+            Kind::Text => None,
+        }
     }
 }

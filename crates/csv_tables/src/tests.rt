@@ -1,5 +1,7 @@
 //! Whole files and what they spell, worked out by hand.
-use crate::{CELL_LIMIT, ROW_LIMIT, TableFault, read_table};
+ghost use Rattle.std.specs.Prelude.{◌<◌, length};
+
+use crate::{CELL_LIMIT, ROW_LIMIT, Table, TableFault, read_table};
 use row_values::{Kind, Value};
 use std::alloc::{AllocError, Global};
 
@@ -249,5 +251,49 @@ fn limits_are_the_last_sizes_taken(rt: HostRuntime) -> Result<(), AllocError> {
         let text = size_text(rt.alloc(), columns, rows)?;
         assert_eq!(rt; text.as_str(), want, "{what}");
     }
+    Ok(())
+}
+
+/// The packed numbers of a column as `[1][2]`, or `none`.
+fn packed_text(alloc: Global, table: &Table, column: usize) -> Result<String, AllocError>
+    requires { column < length table.now.schema }
+{
+    let Some(numbers) = table.numbers(column) else {
+        return String::from_str(alloc, "none");
+    };
+    let mut text = String::new(alloc);
+    for number in numbers {
+        let number = format!(in alloc; "[{number}]")?;
+        text.push_str(number.as_str())?;
+    }
+    Ok(text)
+}
+
+#[test]
+fn columns_of_numbers_are_packed(rt: HostRuntime) -> Result<(), AllocError> {
+    let alloc = rt.alloc();
+    let bytes = b"a,b:text,c\n5,1,-9223372036854775808\n5,2,x\n7,3,\n";
+    let Ok(table) = read_table(alloc, bytes) else {
+        return Err(AllocError);
+    };
+    let first = packed_text(alloc, &table, 0)?;
+    assert_eq!(rt; first.as_str(), "[5][5][7]");
+    let marked = packed_text(alloc, &table, 1)?;
+    assert_eq!(rt; marked.as_str(), "none");
+    let mixed = packed_text(alloc, &table, 2)?;
+    assert_eq!(rt; mixed.as_str(), "none");
+    Ok(())
+}
+
+#[test]
+fn a_table_without_rows_has_empty_packed_columns(rt: HostRuntime) -> Result<(), AllocError> {
+    let alloc = rt.alloc();
+    let Ok(table) = read_table(alloc, b"a:int,b\n") else {
+        return Err(AllocError);
+    };
+    let first = packed_text(alloc, &table, 0)?;
+    assert_eq!(rt; first.as_str(), "");
+    let bare = packed_text(alloc, &table, 1)?;
+    assert_eq!(rt; bare.as_str(), "none");
     Ok(())
 }
