@@ -2,7 +2,7 @@
 //!
 //! The cells stand in one list, row after row, and those of a column of whole numbers once more as packed numbers.
 //! Every table has at most 2^20 rows and 2^22 cells, and each row has a value per column, of that column's kind:
-//! `IsTable`, which `schema` and `len` give to callers.
+//! `IsTable`, which `schema`, `len` and `numbers` give to callers.
 ghost use Rattle.std.specs.Prelude.{◌≡◌, ◌<◌, ◌↔◌, IfOk, IfSome, IsSome, Some, length, slice_get};
 ghost use Rattle.row_values.specs.declared.values.Kind.TheVariants.{Int};
 ghost use Rattle.csv_tables.specs.Tables.{AreNumbers, IsKept, IsTable, cell_at, column_kinds, table_of_cells};
@@ -89,6 +89,7 @@ impl Table {
         requires { column < length self.now.schema }
         ensures found { IsSome result ↔ slice_get (column_kinds self.now.schema) column ≡ Some Int }
         ensures value { IfSome result (λ numbers. AreNumbers self.now column numbers.now) }
+        ensures sound { IsTable self.now }
     {
         match self.schema.columns()[column].kind {
             Kind::Int => Some(self.packed.as_slice()[column].as_slice()),

@@ -1,6 +1,4 @@
 //! Whole files and what they spell, worked out by hand.
-ghost use Rattle.std.specs.Prelude.{◌<◌, length};
-
 use crate::{CELL_LIMIT, ROW_LIMIT, Table, TableFault, read_table};
 use row_values::{Kind, Value};
 use std::alloc::{AllocError, Global};
@@ -255,9 +253,10 @@ fn limits_are_the_last_sizes_taken(rt: HostRuntime) -> Result<(), AllocError> {
 }
 
 /// The packed numbers of a column as `[1][2]`, or `none`.
-fn packed_text(alloc: Global, table: &Table, column: usize) -> Result<String, AllocError>
-    requires { column < length table.now.schema }
-{
+fn packed_text(alloc: Global, table: &Table, column: usize) -> Result<String, AllocError> {
+    if column >= table.schema().columns().len() {
+        return String::from_str(alloc, "no column");
+    }
     let Some(numbers) = table.numbers(column) else {
         return String::from_str(alloc, "none");
     };

@@ -1,0 +1,6 @@
+pub mod Changes
+pub mod ColumnCells
+pub mod Cuts
+pub mod Orders
+pub mod Partitions
+pub mod SameHeads

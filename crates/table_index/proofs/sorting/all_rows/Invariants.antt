@@ -1,0 +1,6 @@
+use Rattle.std.proofs.Common.{◌≡◌}
+use Rattle.statement_meaning.specs.Combinations.{row_numbers}
+use Rattle.table_index.proofs.sorting.all_rows.Given as goal
+
+abbrev pub invariant-loop-row : goal.invariant-loop-row
+invariant-loop-row l = l.rows.items ≡ row_numbers l.row
