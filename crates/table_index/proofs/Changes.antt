@@ -21,8 +21,8 @@ heads_push same [] y = refl
 heads_push {X = X} same (x ∷ xs) y =
     let more : heads same (xs ++ y ∷ []) ≡ heads same xs ++ cond (list_any (λ z. same z y) xs) [] (y ∷ []) = heads_push same xs y in
     let parts : filter (λ z. not (same x z)) (heads same xs ++ cond (list_any (λ z. same z y) xs) [] (y ∷ []))
-        ≡ filter (λ z. not (same x z)) (heads same xs) ++ filter (λ z. not (same x z)) (cond (list_any (λ z. same z y) xs) [] (y ∷ [])) =
-        filter-append (λ z. not (same x z)) (heads same xs) (cond (list_any (λ z. same z y) xs) [] (y ∷ [])) in
+    ≡ filter (λ z. not (same x z)) (heads same xs) ++ filter (λ z. not (same x z)) (cond (list_any (λ z. same z y) xs) [] (y ∷ [])) =
+    filter-append (λ z. not (same x z)) (heads same xs) (cond (list_any (λ z. same z y) xs) [] (y ∷ [])) in
     let last = by_tests (list_any (λ z. same z y) xs) (same x y) refl in
     rw (more, parts, last) refl
   where

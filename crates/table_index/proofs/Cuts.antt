@@ -30,9 +30,11 @@ cut_from_point p [] zero l h = tt
 cut_from_point p [] (suc k) l h = absurd (omega (arith, l))
 cut_from_point p (x ∷ xs) zero l h =
     (h.1 zero x (omega arith) (omega arith), cut_from_point p xs zero (omega arith) ((λ k d a b. absurd (omega (arith, b))), (λ k d a b. h.1 (suc k) d (omega arith) (omega (arith, b)))))
-cut_from_point p (x ∷ xs) (suc k) l h =
-    (h.0 zero x (omega arith) (omega arith), cut_from_point p xs k (omega (arith, l))
-    ((λ i d a b. h.0 (suc i) d (omega arith) (omega (arith, b))), (λ i d a b. h.1 (suc i) d (omega (arith, a)) (omega (arith, b)))))
+cut_from_point p (x ∷ xs) (suc k) l h = (
+  h.0 zero x (omega arith) (omega arith),
+  cut_from_point p xs k (omega (arith, l))
+      ((λ i d a b. h.0 (suc i) d (omega arith) (omega (arith, b))), (λ i d a b. h.1 (suc i) d (omega (arith, a)) (omega (arith, b)))),
+)
 
 -- the cut is how many pass
 pub cut_counts : {X : Type 0} (p : X → Bool) (xs : List X) (k : ℕ) → Cut p xs k → k ≡ count_by p xs

@@ -88,6 +88,10 @@ pub pairs_ordered : (numbers : List ℤ) (pairs : List (ℤ × ℕ)) → All (λ
 pairs_ordered numbers pairs all s k d low inside =
     let short : k + 1 < length pairs = rw length-map at inside in
     let e : ℤ × ℕ = get_or pairs 0 (pos 0, 0) in
-    rw (get_or-map (λ (pair : ℤ × ℕ). pair.1) pairs (k + 1) e d short, get_or-map (λ (pair : ℤ × ℕ). pair.1) pairs k e d (omega arith),
-    all (k + 1) e short, all k e (omega arith))
+    rw (
+      get_or-map (λ (pair : ℤ × ℕ). pair.1) pairs (k + 1) e d short,
+      get_or-map (λ (pair : ℤ × ℕ). pair.1) pairs k e d (omega arith),
+      all (k + 1) e short,
+      all k e (omega arith),
+    )
     (s k e low short)

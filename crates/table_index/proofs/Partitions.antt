@@ -37,10 +37,10 @@ stands : (table : TableValue) → IsTable table → (column row : ℕ) (value : 
 stands table t column row value k inside =
     let kinds = t.fits row [] inside in
     let size : length (get_or table.rows row []) ≡ length table.schema =
-        sym (length-map (get_or table.rows row []) kind_of) ∙ (ap length kinds ∙ length-map table.schema (λ column. column.kind)) in
+    sym (length-map (get_or table.rows row []) kind_of) ∙ (ap length kinds ∙ length-map table.schema (λ column. column.kind)) in
     let wide : column < length (get_or table.rows row []) = omega (arith, size, column_in_range table.schema column (kind_of value) k) in
     let here : cell_at table row column ≡ Some (get_or (get_or table.rows row []) column value) =
-        ap (λ (r : Option (List Value)). value_in r column) (slice_get-get_or table.rows row [] inside) ∙ slice_get-get_or (get_or table.rows row []) column value wide in
+    ap (λ (r : Option (List Value)). value_in r column) (slice_get-get_or table.rows row [] inside) ∙ slice_get-get_or (get_or table.rows row []) column value wide in
     record {
       found = get_or (get_or table.rows row []) column value;
       is = here;

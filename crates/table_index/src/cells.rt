@@ -54,7 +54,10 @@ pub(crate) fn has_same_cell(
     ensures { result ≡ is_same_cell (cell_at t.now a column) (cell_at t.now b column) }
 {
     match numbers {
-        Some(numbers) => numbers.get(a as usize).cmp(&numbers.get(b as usize)).is_eq(),
+        Some(numbers) => numbers
+            .get(a as usize)
+            .cmp(&numbers.get(b as usize))
+            .is_eq(),
         None => cell(t, column, a).cmp(&cell(t, column, b)).is_eq(),
     }
 }

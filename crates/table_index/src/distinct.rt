@@ -4,7 +4,6 @@
 ghost use Rattle.std.specs.Prelude.{◌≡◌, ◌<◌, ◌≤◌, IfOk, IfSome, IsSortedBy, length, pos, slice_index, slice_index_or};
 ghost use Rattle.std.specs.Ordering.{int_cmp, is_eq, is_lt};
 ghost use Rattle.csv_tables.specs.Tables.{AreNumbers, cell_at};
-ghost use Rattle.csv_tables.specs.declared.table.TheConstants.{ROW_LIMIT};
 ghost use Rattle.table_index.specs.Distinct.{cells_of, distinct_count, distinct_in, is_new, is_same_cell};
 ghost use Rattle.table_index.specs.Indexes.{is_before};
 
@@ -25,7 +24,8 @@ fn is_new_cell(
     requires numbers { IfSome numbers (λ numbers. AreNumbers t.now column numbers.now) }
     requires in_order { IsSortedBy (is_before t.now column) rows.now }
     requires position { position < length rows.now }
-    ensures { result ≡ is_new is_same_cell (cells_of t.now column rows.now) position (cell_at t.now (slice_index rows.now position) column) }
+    ensures { result ≡ is_new is_same_cell (cells_of t.now column rows.now) position
+        (cell_at t.now (slice_index rows.now position) column) }
 {
     position == 0 || !has_same_cell(t, column, numbers, rows[position - 1], rows[position])
 }
@@ -48,7 +48,8 @@ pub(crate) fn distinct_rows(t: &Table, column: usize, numbers: Option<&[i64]>, r
 fn is_new_number(numbers: &[i64], position: usize) -> bool
     requires in_order { IsSortedBy (λ a b. is_lt (int_cmp a b)) numbers.now }
     requires position { position < length numbers.now }
-    ensures { result ≡ is_new (λ a b. is_eq (int_cmp a b)) numbers.now position (slice_index_or numbers.now position (pos 0)) }
+    ensures { result ≡ is_new (λ a b. is_eq (int_cmp a b)) numbers.now position
+        (slice_index_or numbers.now position (pos 0)) }
 {
     position == 0 || numbers[position - 1].cmp(&numbers[position]).is_ne()
 }

@@ -63,7 +63,8 @@ impl Index {
         ensures low { result.0 ≡ count_by (lies_below t.now self.now.column lo.entry) self.now.rows }
         ensures high { result.1 ≡ max result.0 (count_by (lies_up_to t.now self.now.column hi.entry) self.now.rows) }
         ensures in_range { result.1 ≤ length self.now.rows }
-        ensures rows { slice_range self.now.rows result.0 result.1 ≡ filter (lies_within t.now self.now.column lo.entry hi.entry) self.now.rows }
+        ensures rows { slice_range self.now.rows result.0 result.1
+            ≡ filter (lies_within t.now self.now.column lo.entry hi.entry) self.now.rows }
     {
         let column = usize::from(self.column);
         let numbers = t.numbers(column);

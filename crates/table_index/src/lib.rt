@@ -14,3 +14,5 @@ pub use bounds::Bound;
 pub use distinct::distinct_values;
 pub use index::Index;
 
+#[cfg(test)]
+mod tests;

@@ -13,5 +13,5 @@ loop-position-preserved c =
     let more = rw here at (count_more is_same_cell (cells_of c.args.t.now c.args.column c.args.rows.now) c.loop-position.position d inside) in
     let few = count_few is_same_cell (cells_of c.args.t.now c.args.column c.args.rows.now) (c.loop-position.position + 1) in
     let counted : c.loop-position.count + c.from-count.result ≡ distinct_count is_same_cell (take (c.loop-position.position + 1) (cells_of c.args.t.now c.args.column c.args.rows.now)) =
-        rw (c.from-count.ensures, c.is_new_cell.ensures, c.loop-position.invariant.counted, byte-is) more in
+    rw (c.from-count.ensures, c.is_new_cell.ensures, c.loop-position.invariant.counted, byte-is) more in
     record { counted = counted; few = rw counted few }

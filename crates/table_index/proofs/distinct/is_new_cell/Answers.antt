@@ -15,5 +15,5 @@ returns-else-position-eq0 c =
     let last = get_or-map (λ row. cell_at c.args.t.now row c.args.column) c.args.rows.now (c.args.position - 1) 0 d short in
     let here = get_or-map (λ row. cell_at c.args.t.now row c.args.column) c.args.rows.now c.args.position 0 d c.requires.position in
     let new = rw (last, here) at (new_by_last cell_order cell_order_total (cells_of c.args.t.now c.args.column c.args.rows.now)
-        (cells_rise c.args.t.now c.args.column c.args.rows.now c.requires.in_order) c.args.position d c.if-position-eq0.false inside) in
+    (cells_rise c.args.t.now c.args.column c.args.rows.now c.requires.in_order) c.args.position d c.if-position-eq0.false inside) in
     rw c.has_same_cell.ensures new
