@@ -22,7 +22,7 @@ pub cell_fits : (table : TableValue) → IsTable table → (row column : ℕ) (k
     → slice_get (column_kinds table.schema) column ≡ Some k → cell_at table row column ≡ Some x → kind_of x ≡ k
 cell_fits table t row column k x inside is at =
     let here : slice_get (get_or table.rows row []) column ≡ Some x =
-        ap (λ (r : Option (List Value)). value_in r column) (sym (slice_get-get_or table.rows row [] inside)) ∙ at in
+    ap (λ (r : Option (List Value)). value_in r column) (sym (slice_get-get_or table.rows row [] inside)) ∙ at in
     let mapped = slice_get-map kind_of (get_or table.rows row []) column in
     let kinds : map kind_of (get_or table.rows row []) ≡ column_kinds table.schema = t.fits row [] inside in
     same_Some (kind_of x) k (sym (ap (option_map kind_of) here) ∙ (sym mapped ∙ (ap (λ (ks : List Kind). slice_get ks column) kinds ∙ is)))
