@@ -11,18 +11,19 @@ ghost use Rattle.growth_checker.specs.Expression.{formula, IsSound};
 
 use cost_polynomials::Poly;
 use growth_checker::{Expr, shape};
-use std::alloc::{AllocError, Global};
+use row_values::OutOfMemory;
+use std::alloc::Global;
 use std::rc::Rc;
 use std::{env, io};
 
-fn sel(alloc: Global, i: u8) -> Result<Rc<Expr>, AllocError>
+fn sel(alloc: Global, i: u8) -> Result<Rc<Expr>, OutOfMemory>
     requires { i < 8 }
     ensures { IfOk result (λ e. IsSound (formula e.value)) }
 {
     Ok(Rc::new(alloc, Expr::Sel(i))?)
 }
 
-fn times(alloc: Global, left: Rc<Expr>, right: Rc<Expr>) -> Result<Rc<Expr>, AllocError>
+fn times(alloc: Global, left: Rc<Expr>, right: Rc<Expr>) -> Result<Rc<Expr>, OutOfMemory>
     requires left { IsSound (formula left.value) }
     requires right { IsSound (formula right.value) }
     ensures { IfOk result (λ e. IsSound (formula e.value)) }
@@ -30,7 +31,7 @@ fn times(alloc: Global, left: Rc<Expr>, right: Rc<Expr>) -> Result<Rc<Expr>, All
     Ok(Rc::new(alloc, Expr::Mul(left, right))?)
 }
 
-fn one_and(alloc: Global, e: Rc<Expr>) -> Result<Rc<Expr>, AllocError>
+fn one_and(alloc: Global, e: Rc<Expr>) -> Result<Rc<Expr>, OutOfMemory>
     requires { IsSound (formula e.value) }
     ensures { IfOk result (λ e. IsSound (formula e.value)) }
 {
@@ -38,7 +39,7 @@ fn one_and(alloc: Global, e: Rc<Expr>) -> Result<Rc<Expr>, AllocError>
     Ok(Rc::new(alloc, Expr::Sum(one, e))?)
 }
 
-fn cost(alloc: Global) -> Result<Rc<Expr>, AllocError>
+fn cost(alloc: Global) -> Result<Rc<Expr>, OutOfMemory>
     ensures { IfOk result (λ e. IsSound (formula e.value)) }
 {
     let mut last = sel(alloc, 4)?;

@@ -6,7 +6,8 @@ ghost use Rattle.std.specs.Prelude.{◌≡◌, ◌∷◌, map, OnOk, IfOk, IfErr
 ghost use Rattle.cost_polynomials.specs.Gathering.{IsPlaceFor, IsPlaceOf};
 ghost use Rattle.cost_polynomials.specs.Polynomial.{add_term, AllFit, gathered, HasLarge, pair_products, times_term};
 
-use std::alloc::{AllocError, AllocFailed};
+use row_values::OutOfMemory;
+use std::alloc::AllocFailed;
 
 /// Why a polynomial was not built.
 #[derive(Clone, Copy, Debug, PartialEq, Eq)]
@@ -17,13 +18,13 @@ pub enum PolyFault {
     Memory,
 }
 
-impl From<AllocError> for PolyFault {
+impl From<OutOfMemory> for PolyFault {
     ghost use Rattle.cost_polynomials.specs.declared.gathering.PolyFault.TheVariants.{Memory};
     ghost use Rattle.std.specs.Prelude.{◌≡◌};
 
     ghost from_gives = { λ _ e. e ≡ Memory };
 
-    fn from(_e: AllocError) -> PolyFault {
+    fn from(_e: OutOfMemory) -> PolyFault {
         PolyFault::Memory
     }
 }

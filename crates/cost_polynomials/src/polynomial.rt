@@ -7,7 +7,8 @@ ghost use Rattle.std.specs.Prelude.{◌≡◌, ℕ, List, [], ◌∷◌, ◌+◌
 ghost use Rattle.cost_polynomials.specs.Polynomial.{AllFit, AreApart, HasLarge, HasNumbers, IsExactly, IsPolynomial, IsVectorFor, number_at, poly_product, poly_sum, product_over, value_of};
 
 use crate::gathering::{PolyFault, put_products, put_terms};
-use std::alloc::{AllocError, Global};
+use row_values::OutOfMemory;
+use std::alloc::Global;
 use std::marker::Model;
 
 /// A polynomial with some terms, at most one for each set of selectivities.
@@ -32,7 +33,7 @@ impl Model for Poly {
 
 impl Poly {
     /// The polynomial that is `c` at every vector.
-    pub fn constant(alloc: Global, c: u128) -> Result<Poly, AllocError>
+    pub fn constant(alloc: Global, c: u128) -> Result<Poly, OutOfMemory>
         requires { 1 ≤ c }
         ensures terms { IfOk result (λ p. p ≡ (0, c) ∷ []) }
         ensures value { IfOk result (λ p. (s : List ℕ) → value_of p s ≡ c) }
@@ -42,7 +43,7 @@ impl Poly {
     }
 
     /// The polynomial that is the number of selectivity `i`.
-    pub fn sel(alloc: Global, i: u8) -> Result<Poly, AllocError>
+    pub fn sel(alloc: Global, i: u8) -> Result<Poly, OutOfMemory>
         requires { i < 8 }
         ensures terms { IfOk result (λ p. p ≡ (2 ^ i, 1) ∷ []) }
         ensures value { IfOk result (λ p. (s : List ℕ) → value_of p s ≡ number_at s i) }

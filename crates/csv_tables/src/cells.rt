@@ -11,12 +11,12 @@ use crate::header::field;
 use crate::numbers::whole_number;
 use crate::records::Records;
 use csv::ByteRecord;
-use row_values::{Column, Kind, Value, Words};
-use std::alloc::{AllocError, Global};
+use row_values::{Column, Kind, OutOfMemory, Value, Words};
+use std::alloc::Global;
 use std::str;
 
 /// The value of a cell of this kind. A number takes no memory.
-fn value(alloc: Global, kind: Kind, text: &[u8]) -> Result<Value, AllocError>
+fn value(alloc: Global, kind: Kind, text: &[u8]) -> Result<Value, OutOfMemory>
     requires { IsTrue (is_cell kind text.now) }
     ensures { IfOk result (λ value. value ≡ value_of kind text.now) }
 {
@@ -35,7 +35,7 @@ fn push_row(
     columns: &[Column],
     row: &ByteRecord,
     cells: &mut Vec<Value>,
-) -> Result<(), AllocError>
+) -> Result<(), OutOfMemory>
     requires { IsTrue (are_cells 0 columns.now (fields_of row.now)) }
     ensures { OnOk result (cells.new.items ≡ cells.old.items ++ values_from 0 columns.now (fields_of row.now)) }
 {
@@ -52,7 +52,7 @@ pub(crate) fn read_cells(
     row_count: usize,
     records: &mut Records<'_>,
     row: &mut ByteRecord,
-) -> Result<Vec<Value>, AllocError>
+) -> Result<Vec<Value>, OutOfMemory>
     requires count { length records.old ≡ row_count }
     requires few { row_count * length columns.now ≤ CELL_LIMIT }
     requires sound { IsTrue (list_all (are_cells 0 columns.now) records.old) }

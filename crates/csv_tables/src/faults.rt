@@ -3,7 +3,8 @@
 //! The variants stand in the order in which they count. Rows and columns are numbered from 1, the header is no row.
 ghost use Rattle.std.specs.Prelude.{◌≡◌};
 
-use std::alloc::{AllocError, AllocFailed};
+use row_values::OutOfMemory;
+use std::alloc::AllocFailed;
 
 /// The first thing that is wrong with the bytes of a table, or want of memory, which may come before any of them.
 #[derive(Clone, Copy, Debug, PartialEq, Eq)]
@@ -24,12 +25,12 @@ pub enum TableFault {
     Memory,
 }
 
-impl From<AllocError> for TableFault {
+impl From<OutOfMemory> for TableFault {
     ghost use Rattle.csv_tables.specs.declared.faults.TableFault.TheVariants.{Memory};
 
     ghost from_gives = { λ _ fault. fault ≡ Memory };
 
-    fn from(_error: AllocError) -> TableFault {
+    fn from(_error: OutOfMemory) -> TableFault {
         TableFault::Memory
     }
 }

@@ -5,8 +5,8 @@ ghost use Rattle.std.specs.Prelude.{◌≡◌, IfOk, Some, map, slice_get};
 ghost use Rattle.row_values.specs.declared.values.Kind.TheVariants.{Int};
 ghost use Rattle.csv_tables.specs.Tables.{AreNumbers, ArePacked, IsKept, column_kinds, table_of_cells};
 
-use row_values::{Kind, Schema, Value};
-use std::alloc::{AllocError, Global};
+use row_values::{Kind, OutOfMemory, Schema, Value};
+use std::alloc::Global;
 
 /// The numbers of a column of whole numbers, of so many rows whose cells stand row after row.
 fn pack_column(
@@ -15,7 +15,7 @@ fn pack_column(
     row_count: usize,
     cells: &[Value],
     column: usize,
-) -> Result<Vec<i64>, AllocError>
+) -> Result<Vec<i64>, OutOfMemory>
     requires kept { IsKept schema.now row_count cells.now }
     requires kind { slice_get (column_kinds schema.now) column ≡ Some Int }
     ensures { IfOk result (λ numbers. AreNumbers (table_of_cells schema.now row_count cells.now) column numbers.items) }
@@ -37,7 +37,7 @@ pub(crate) fn pack(
     schema: &Schema,
     row_count: usize,
     cells: &[Value],
-) -> Result<Vec<Vec<i64>>, AllocError>
+) -> Result<Vec<Vec<i64>>, OutOfMemory>
     requires { IsKept schema.now row_count cells.now }
     ensures { IfOk result (λ packed. ArePacked (table_of_cells schema.now row_count cells.now) (map (λ numbers. numbers.items) packed.items)) }
 {

@@ -19,8 +19,8 @@ use crate::shape::{Shape, shape_of};
 use crate::survey::{Survey, survey_rows};
 use crate::table::{CELL_LIMIT, ROW_LIMIT, Table};
 use csv::ByteRecord;
-use row_values::{COLUMN_LIMIT, Column, Kind, Schema};
-use std::alloc::{AllocError, Global};
+use row_values::{COLUMN_LIMIT, Column, Kind, OutOfMemory, Schema};
+use std::alloc::Global;
 
 /// The kind of a column with this mark, which holds numbers alone or not.
 fn kind(mark: Option<Kind>, is_number: bool) -> Kind
@@ -33,7 +33,7 @@ fn kind(mark: Option<Kind>, is_number: bool) -> Kind
 }
 
 /// The columns under the headings, with the kinds that the survey found.
-fn columns(alloc: Global, headings: &[Heading], survey: &Survey) -> Result<Vec<Column>, AllocError>
+fn columns(alloc: Global, headings: &[Heading], survey: &Survey) -> Result<Vec<Column>, OutOfMemory>
     requires { length survey.now.numbers.items ≡ length headings.now }
     ensures { IfOk result (λ columns. (rows : List (List (List ℕ))) → IsSurvey headings.now rows survey.now
         → columns.items ≡ columns_from 0 headings.now rows) }
@@ -74,7 +74,7 @@ fn build(
     bytes: &[u8],
     headings: &[Heading],
     survey: &Survey,
-) -> Result<Table, AllocError>
+) -> Result<Table, OutOfMemory>
     requires { IsSoundFile bytes.now headings.now survey.now }
     ensures { IfOk result (λ table. table_of bytes.now ≡ Ok table) }
 {

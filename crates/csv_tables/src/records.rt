@@ -7,7 +7,8 @@ ghost use Rattle.csv.specs.Records.{fields_of};
 ghost use Rattle.csv_tables.specs.Reading.{records_of};
 
 use csv::{ByteRecord, Reader, ReaderBuilder};
-use std::alloc::{AllocError, Global};
+use row_values::OutOfMemory;
+use std::alloc::Global;
 use std::marker::Model;
 
 /// A reader of the records of bytes in memory; contracts see the list of those that are left.
@@ -44,7 +45,7 @@ impl<'a> Records<'a> {
     }
 
     /// The next record into `row`, and whether there was one.
-    pub(crate) fn next(&mut self, row: &mut ByteRecord) -> Result<bool, AllocError>
+    pub(crate) fn next(&mut self, row: &mut ByteRecord) -> Result<bool, OutOfMemory>
         ensures { IfOk result (λ found. self.old ≡ (if found then fields_of row.new ∷ self.new else [])) }
     {
         if self.ended {
@@ -52,7 +53,7 @@ impl<'a> Records<'a> {
         }
         self.ended = true;
         let Ok(found) = self.reader.read_byte_record(row) else {
-            return Err(AllocError);
+            return Err(OutOfMemory);
         };
         self.ended = !found;
         Ok(found)

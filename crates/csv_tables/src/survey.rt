@@ -15,8 +15,8 @@ use crate::header::{Heading, field};
 use crate::numbers::whole_number;
 use crate::records::Records;
 use csv::ByteRecord;
-use row_values::Kind;
-use std::alloc::{AllocError, Global};
+use row_values::{Kind, OutOfMemory};
+use std::alloc::Global;
 use std::str;
 
 /// What the first reading found.
@@ -76,7 +76,7 @@ fn note_cells(headings: &[Heading], numbers: &mut [bool], row: &ByteRecord) -> O
 
 impl Survey {
     /// The survey of no row, for so many columns.
-    fn new(alloc: Global, column_count: usize) -> Result<Survey, AllocError>
+    fn new(alloc: Global, column_count: usize) -> Result<Survey, OutOfMemory>
         ensures { IfOk result (λ survey. IsNew column_count survey) }
     {
         let mut numbers = Vec::new(alloc);
@@ -111,7 +111,7 @@ pub(crate) fn survey_rows(
     row_count: usize,
     records: &mut Records<'_>,
     row: &mut ByteRecord,
-) -> Result<Survey, AllocError>
+) -> Result<Survey, OutOfMemory>
     requires count { length records.old ≡ row_count }
     requires few { row_count ≤ ROW_LIMIT }
     requires columns { length headings.now ≤ COLUMN_LIMIT }

@@ -8,8 +8,8 @@ ghost use Rattle.row_values.specs.declared.values.Kind.TheVariants.{Int};
 ghost use Rattle.csv_tables.specs.Tables.{AreNumbers, IsKept, IsTable, cell_at, column_kinds, table_of_cells};
 
 use crate::packed::pack;
-use row_values::{Kind, Schema, Value};
-use std::alloc::{AllocError, Global};
+use row_values::{Kind, OutOfMemory, Schema, Value};
+use std::alloc::Global;
 use std::marker::Model;
 
 /// The most rows of a table: a row's number fits 32 bits, and a product of two tables' rows 64.
@@ -45,7 +45,7 @@ impl Table {
         schema: Schema,
         row_count: usize,
         cells: Vec<Value>,
-    ) -> Result<Table, AllocError>
+    ) -> Result<Table, OutOfMemory>
         requires { IsKept schema row_count cells.items }
         ensures { IfOk result (λ table. table ≡ table_of_cells schema row_count cells.items) }
     {

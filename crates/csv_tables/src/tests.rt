@@ -1,10 +1,10 @@
 //! Whole files and what they spell, worked out by hand.
 use crate::{CELL_LIMIT, ROW_LIMIT, Table, TableFault, read_table};
-use row_values::{Kind, Value};
-use std::alloc::{AllocError, Global};
+use row_values::{Kind, OutOfMemory, Value};
+use std::alloc::Global;
 
 /// A fault in the words of a refusal.
-fn fault_text(alloc: Global, fault: TableFault) -> Result<String, AllocError> {
+fn fault_text(alloc: Global, fault: TableFault) -> Result<String, OutOfMemory> {
     match fault {
         TableFault::Columns => String::from_str(alloc, "columns"),
         TableFault::BadHeader(column) => format!(in alloc; "bad header {column}"),
@@ -17,7 +17,7 @@ fn fault_text(alloc: Global, fault: TableFault) -> Result<String, AllocError> {
 }
 
 /// What bytes spell: a column as `<a int>`, a row as `[1][x]`, or the fault.
-fn spelled(alloc: Global, bytes: &[u8]) -> Result<String, AllocError> {
+fn spelled(alloc: Global, bytes: &[u8]) -> Result<String, OutOfMemory> {
     let table = match read_table(alloc, bytes) {
         Ok(table) => table,
         Err(fault) => {
@@ -50,7 +50,7 @@ fn spelled(alloc: Global, bytes: &[u8]) -> Result<String, AllocError> {
 }
 
 #[test]
-fn files_spell_tables(rt: HostRuntime) -> Result<(), AllocError> {
+fn files_spell_tables(rt: HostRuntime) -> Result<(), OutOfMemory> {
     let cases = [
         ("nothing", "", "bad header 1"),
         ("line ends alone", "\r\n\n\n", "bad header 1"),
@@ -159,7 +159,7 @@ fn files_spell_tables(rt: HostRuntime) -> Result<(), AllocError> {
 }
 
 #[test]
-fn only_utf8_is_text(rt: HostRuntime) -> Result<(), AllocError> {
+fn only_utf8_is_text(rt: HostRuntime) -> Result<(), OutOfMemory> {
     let alloc = rt.alloc();
     let name = spelled(alloc, b"a,b\xff:int\n")?;
     assert_eq!(rt; name.as_str(), "bad header 2");
@@ -173,7 +173,7 @@ fn only_utf8_is_text(rt: HostRuntime) -> Result<(), AllocError> {
 }
 
 #[test]
-fn a_file_cut_at_each_byte(rt: HostRuntime) -> Result<(), AllocError> {
+fn a_file_cut_at_each_byte(rt: HostRuntime) -> Result<(), OutOfMemory> {
     let bytes = b"\xef\xbb\xbfv\r\n1\r\n5\r\n12\r\n";
     let wants = [
         "bad header 1",
@@ -202,7 +202,7 @@ fn a_file_cut_at_each_byte(rt: HostRuntime) -> Result<(), AllocError> {
 }
 
 /// A header of so many columns, and so many rows of empty cells.
-fn empty_cells(alloc: Global, columns: u32, rows: usize) -> Result<Vec<u8>, AllocError> {
+fn empty_cells(alloc: Global, columns: u32, rows: usize) -> Result<Vec<u8>, OutOfMemory> {
     let mut bytes = Vec::new(alloc);
     for column in 0..columns {
         if column != 0 {
@@ -223,7 +223,7 @@ fn empty_cells(alloc: Global, columns: u32, rows: usize) -> Result<Vec<u8>, Allo
 }
 
 /// How many rows there are, or the fault.
-fn size_text(alloc: Global, columns: u32, rows: usize) -> Result<String, AllocError> {
+fn size_text(alloc: Global, columns: u32, rows: usize) -> Result<String, OutOfMemory> {
     let bytes = empty_cells(alloc, columns, rows)?;
     match read_table(alloc, &bytes) {
         Ok(table) => {
@@ -235,7 +235,7 @@ fn size_text(alloc: Global, columns: u32, rows: usize) -> Result<String, AllocEr
 }
 
 #[test]
-fn limits_are_the_last_sizes_taken(rt: HostRuntime) -> Result<(), AllocError> {
+fn limits_are_the_last_sizes_taken(rt: HostRuntime) -> Result<(), OutOfMemory> {
     let cases = [
         ("64 columns", 64, 1, "1"),
         ("65 columns", 65, 0, "columns"),
@@ -253,7 +253,7 @@ fn limits_are_the_last_sizes_taken(rt: HostRuntime) -> Result<(), AllocError> {
 }
 
 /// The packed numbers of a column as `[1][2]`, or `none`.
-fn packed_text(alloc: Global, table: &Table, column: usize) -> Result<String, AllocError> {
+fn packed_text(alloc: Global, table: &Table, column: usize) -> Result<String, OutOfMemory> {
     if column >= table.schema().columns().len() {
         return String::from_str(alloc, "no column");
     }
@@ -269,11 +269,11 @@ fn packed_text(alloc: Global, table: &Table, column: usize) -> Result<String, Al
 }
 
 #[test]
-fn columns_of_numbers_are_packed(rt: HostRuntime) -> Result<(), AllocError> {
+fn columns_of_numbers_are_packed(rt: HostRuntime) -> Result<(), OutOfMemory> {
     let alloc = rt.alloc();
     let bytes = b"a,b:text,c\n5,1,-9223372036854775808\n5,2,x\n7,3,\n";
     let Ok(table) = read_table(alloc, bytes) else {
-        return Err(AllocError);
+        return Err(OutOfMemory);
     };
     let first = packed_text(alloc, &table, 0)?;
     assert_eq!(rt; first.as_str(), "[5][5][7]");
@@ -285,10 +285,10 @@ fn columns_of_numbers_are_packed(rt: HostRuntime) -> Result<(), AllocError> {
 }
 
 #[test]
-fn a_table_without_rows_has_empty_packed_columns(rt: HostRuntime) -> Result<(), AllocError> {
+fn a_table_without_rows_has_empty_packed_columns(rt: HostRuntime) -> Result<(), OutOfMemory> {
     let alloc = rt.alloc();
     let Ok(table) = read_table(alloc, b"a:int,b\n") else {
-        return Err(AllocError);
+        return Err(OutOfMemory);
     };
     let first = packed_text(alloc, &table, 0)?;
     assert_eq!(rt; first.as_str(), "");

@@ -14,7 +14,8 @@ use crate::serving::serve_lines;
 use crate::words::script;
 use outside_io::{Fetched, Shelf, Sink};
 use outside_model::SCRIPT_LIMIT;
-use std::alloc::{AllocError, Global};
+use row_values::OutOfMemory;
+use std::alloc::Global;
 
 /// The bytes without the byte order mark in front.
 fn script_of(bytes: &[u8]) -> &[u8]
@@ -27,7 +28,7 @@ fn script_of(bytes: &[u8]) -> &[u8]
 }
 
 /// The lines of a text.
-fn split(alloc: Global, text: &str) -> Result<Vec<&str>, AllocError>
+fn split(alloc: Global, text: &str) -> Result<Vec<&str>, OutOfMemory>
     ensures { IfOk result (λ lines. map (λ line. line.now) lines.items ≡ lines_of text.now) }
 {
     text.lines().collect(alloc)

@@ -15,9 +15,10 @@ ghost use Rattle.instance_cli.specs.Report.{Answers, IsCutShort, IsOfLines, Repo
 use crate::outcome::Status;
 use outside_io::{Fetched, Put, Shelf, Sink};
 use outside_model::FILE_LIMIT;
+use row_values::OutOfMemory;
 use script_report::{Command, LineFault, Reply, read_line, reply_text};
 use session_engine::Engine;
-use std::alloc::{AllocError, Global};
+use std::alloc::Global;
 
 /// What became of the file that a line asks for.
 #[derive(Clone, Copy, Debug, PartialEq, Eq)]

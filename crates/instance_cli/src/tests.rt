@@ -1,11 +1,12 @@
 //! The worked examples over memory, each status once, and faults by shelves and sinks that fail where they are told to.
 use super::*;
 use outside_io::{MemShelf, MemSink, SureShelf, SureSink};
-use std::alloc::{AllocError, Global};
+use row_values::OutOfMemory;
+use std::alloc::Global;
 use std::test::Fail;
 
 /// The words `run` and this name.
-fn run_words(alloc: Global, name: &str) -> Result<Vec<String>, AllocError> {
+fn run_words(alloc: Global, name: &str) -> Result<Vec<String>, OutOfMemory> {
     let mut words = Vec::new(alloc);
     words.push(String::from_str(alloc, "run")?)?;
     words.push(String::from_str(alloc, name)?)?;
@@ -14,7 +15,12 @@ fn run_words(alloc: Global, name: &str) -> Result<Vec<String>, AllocError> {
 
 /// Whether the job over this script ends so and writes this, where `t.csv` has the numbers 1, 5 and 12 behind a byte
 /// order mark.
-fn ends_with(alloc: Global, script: &[u8], report: &str, want: Status) -> Result<bool, AllocError> {
+fn ends_with(
+    alloc: Global,
+    script: &[u8],
+    report: &str,
+    want: Status,
+) -> Result<bool, OutOfMemory> {
     let mut shelf = SureShelf::new(alloc);
     shelf.put_file("a.scr", script)?;
     shelf.put_file("t.csv", b"\xef\xbb\xbfv\r\n1\r\n5\r\n12\r\n")?;
@@ -51,7 +57,7 @@ fn reports(
     script: &str,
     report: &str,
     want: Status,
-) -> Result<bool, AllocError> {
+) -> Result<bool, OutOfMemory> {
     let mut shelf = SureShelf::new(alloc);
     shelf.put_file("a.scr", script.as_bytes())?;
     for (name, text) in files {
@@ -200,7 +206,7 @@ fn tables_and_statements(rt: HostRuntime) -> Result<(), Fail> {
 }
 
 /// Whether the 65th table and the 257th statement are refused, and a table that is known is loaded again.
-fn refuses_one_more(alloc: Global) -> Result<bool, AllocError> {
+fn refuses_one_more(alloc: Global) -> Result<bool, OutOfMemory> {
     let mut script = String::new(alloc);
     let mut report = String::new(alloc);
     for i in 0..64_u64 {
@@ -265,7 +271,7 @@ fn statuses(rt: HostRuntime) -> Result<(), Fail> {
 }
 
 /// Whether a script above 16 MiB is too long, one that isn't there is missing, and an option is no script.
-fn refuses_scripts(alloc: Global) -> Result<bool, AllocError> {
+fn refuses_scripts(alloc: Global) -> Result<bool, OutOfMemory> {
     let mut shelf = SureShelf::new(alloc);
     shelf.put_file("long.scr", vec![in alloc; b'\n'; 16777217]?.as_slice())?;
     let mut sink = SureSink::new(alloc);
@@ -285,7 +291,7 @@ fn scripts_that_are_not_run(rt: HostRuntime) -> Result<(), Fail> {
 }
 
 /// Whether a failing fetch of this number ends the job with a read fault, and this written.
-fn read_fails(alloc: Global, call: u64, written: &str) -> Result<bool, AllocError> {
+fn read_fails(alloc: Global, call: u64, written: &str) -> Result<bool, OutOfMemory> {
     let mut shelf = MemShelf::new(alloc);
     shelf.put_file("a.scr", b"frob\nload t t.csv\nfrob\n")?;
     shelf.put_file("t.csv", b"v\n1\n")?;
@@ -297,7 +303,7 @@ fn read_fails(alloc: Global, call: u64, written: &str) -> Result<bool, AllocErro
 }
 
 /// Whether a put of this number that fails after so many bytes ends the job with a write fault, and this written.
-fn write_fails(alloc: Global, call: u64, takes: usize, written: &str) -> Result<bool, AllocError> {
+fn write_fails(alloc: Global, call: u64, takes: usize, written: &str) -> Result<bool, OutOfMemory> {
     let mut shelf = MemShelf::new(alloc);
     shelf.put_file("a.scr", b"frob\n\nfrob\n")?;
     let mut sink = MemSink::new(alloc);

@@ -7,8 +7,8 @@ ghost use Rattle.plan_trees.specs.Trees.{Join, HashJoin, Sort, Base, tree};
 ghost use Rattle.join_optimizer.specs.Found.{accessed, cheaper, cost_of, is_less, joined, ordered, priced, seen, stepped as with_step};
 
 use plan_trees::{Access, Plan, StepKind, is_sorted, is_sorted_access};
-use row_values::Query;
-use std::alloc::{AllocError, Global};
+use row_values::{OutOfMemory, Query};
+use std::alloc::Global;
 use std::rc::Rc;
 
 /// A plan that was found, with its cost.
@@ -36,7 +36,7 @@ fn improves(best: &Option<Found>, cost: u128) -> bool
 }
 
 /// The plan with one more step over it.
-fn stepped(alloc: Global, plan: &Rc<Plan>, step: StepKind) -> Result<Rc<Plan>, AllocError>
+fn stepped(alloc: Global, plan: &Rc<Plan>, step: StepKind) -> Result<Rc<Plan>, OutOfMemory>
     ensures { IfOk result (λ above. tree above.value ≡ Join (tree plan.now.value) step) }
 {
     let outer = plan.clone()?;
@@ -52,7 +52,7 @@ pub(crate) fn take_access(
     access: Access,
     cost: u128,
     best: Option<Found>,
-) -> Result<Option<Found>, AllocError>
+) -> Result<Option<Found>, OutOfMemory>
     ensures { IfOk result (λ after. seen after ≡ cheaper (seen best) (priced (Base access) cost)) }
 {
     if !improves(&best, cost) {
@@ -69,7 +69,7 @@ pub(crate) fn take_sorted_access(
     access: Access,
     cost: u128,
     best: Option<Found>,
-) -> Result<Option<Found>, AllocError>
+) -> Result<Option<Found>, OutOfMemory>
     ensures { IfOk result (λ after. seen after ≡ cheaper (seen best) (accessed q.now access cost true)) }
 {
     if !is_sorted_access(q, access) {
@@ -86,7 +86,7 @@ pub(crate) fn take_step(
     step: StepKind,
     cost: u128,
     best: Option<Found>,
-) -> Result<Option<Found>, AllocError>
+) -> Result<Option<Found>, OutOfMemory>
     requires { IfSome outer.now (λ found. found.cost + cost < 2 ^ 128) }
     ensures { IfOk result (λ after. seen after
         ≡ cheaper (seen best) (with_step step cost (seen outer.now))) }
@@ -110,7 +110,7 @@ pub(crate) fn take_hash_join(
     edge: u8,
     cost: u128,
     best: Option<Found>,
-) -> Result<Option<Found>, AllocError>
+) -> Result<Option<Found>, OutOfMemory>
     requires { IfSome outer.now (λ left. IfSome inner.now (λ right. left.cost + right.cost + cost < 2 ^ 128)) }
     ensures { IfOk result (λ after. seen after
         ≡ cheaper (seen best) (joined edge cost (seen outer.now) (seen inner.now))) }
@@ -133,7 +133,7 @@ pub(crate) fn take_hash_join(
 }
 
 /// The cheaper of the best so far and this plan as it is.
-fn take_same(found: &Found, best: Option<Found>) -> Result<Option<Found>, AllocError>
+fn take_same(found: &Found, best: Option<Found>) -> Result<Option<Found>, OutOfMemory>
     ensures { IfOk result (λ after. seen after
         ≡ cheaper (seen best) (priced (tree found.now.plan.value) found.now.cost)) }
 {
@@ -151,7 +151,7 @@ fn take_sort(
     found: &Found,
     cost: u128,
     best: Option<Found>,
-) -> Result<Option<Found>, AllocError>
+) -> Result<Option<Found>, OutOfMemory>
     requires { found.now.cost + cost < 2 ^ 128 }
     ensures { IfOk result (λ after. seen after
         ≡ cheaper (seen best) (priced (Sort (tree found.now.plan.value)) (found.now.cost + cost))) }
@@ -171,7 +171,7 @@ pub(crate) fn take_ordered(
     any: &Option<Found>,
     cost: u128,
     best: Option<Found>,
-) -> Result<Option<Found>, AllocError>
+) -> Result<Option<Found>, OutOfMemory>
     requires { IfSome any.now (λ found. found.cost + cost < 2 ^ 128) }
     ensures { IfOk result (λ after. seen after ≡ cheaper (seen best) (ordered q.now cost (seen any.now))) }
 {

@@ -9,8 +9,8 @@ use crate::found::{Cheapest, take_hash_join};
 use crate::last_places::cell_at;
 use plan_costs::join_cost;
 use plan_trees::{Stats, hash_join_edge};
-use row_values::Query;
-use std::alloc::{AllocError, Global};
+use row_values::{OutOfMemory, Query};
+use std::alloc::Global;
 
 /// Takes the hash join with this inner side, where an edge joins it to the rest of the set and it is the cheapest.
 fn by_split(
@@ -22,7 +22,7 @@ fn by_split(
     set: u8,
     right: u8,
     best: Cheapest,
-) -> Result<Cheapest, AllocError>
+) -> Result<Cheapest, OutOfMemory>
     requires query { IsSoundQuery q.now }
     requires sound { IsSoundStats q.now stats.now }
     requires vector { IsSoundVector q.now stats.now s.now }
@@ -55,7 +55,7 @@ pub(crate) fn by_splits(
     cells: &[Cheapest],
     set: u8,
     first: Cheapest,
-) -> Result<Cheapest, AllocError>
+) -> Result<Cheapest, OutOfMemory>
     requires query { IsSoundQuery q.now }
     requires sound { IsSoundStats q.now stats.now }
     requires vector { IsSoundVector q.now stats.now s.now }

@@ -11,8 +11,8 @@ use crate::found::{Cheapest, take_access, take_sorted_access, take_step};
 use cost_model::COST_SCALE;
 use plan_costs::{access_unit, step_cost};
 use plan_trees::{Access, Stats, StepKind, accesses, has_place, one_place, steps};
-use row_values::Query;
-use std::alloc::{AllocError, Global};
+use row_values::{OutOfMemory, Query};
+use std::alloc::Global;
 
 /// What was found for the set.
 pub(crate) fn cell_at(cells: &[Cheapest], set: u8) -> &Cheapest
@@ -31,7 +31,7 @@ fn offer_access(
     place: u8,
     access: Access,
     best: Cheapest,
-) -> Result<Cheapest, AllocError>
+) -> Result<Cheapest, OutOfMemory>
     requires query { IsSoundQuery q.now }
     requires sound { IsSoundStats q.now stats.now }
     requires vector { IsSoundVector q.now stats.now s.now }
@@ -54,7 +54,7 @@ fn by_accesses(
     s: &[u64],
     place: u8,
     first: Cheapest,
-) -> Result<Cheapest, AllocError>
+) -> Result<Cheapest, OutOfMemory>
     requires query { IsSoundQuery q.now }
     requires sound { IsSoundStats q.now stats.now }
     requires vector { IsSoundVector q.now stats.now s.now }
@@ -82,7 +82,7 @@ fn offer_step(
     place: u8,
     step: StepKind,
     best: Cheapest,
-) -> Result<Cheapest, AllocError>
+) -> Result<Cheapest, OutOfMemory>
     requires query { IsSoundQuery q.now }
     requires sound { IsSoundStats q.now stats.now }
     requires vector { IsSoundVector q.now stats.now s.now }
@@ -109,7 +109,7 @@ fn by_steps(
     from: u8,
     place: u8,
     first: Cheapest,
-) -> Result<Cheapest, AllocError>
+) -> Result<Cheapest, OutOfMemory>
     requires query { IsSoundQuery q.now }
     requires sound { IsSoundStats q.now stats.now }
     requires vector { IsSoundVector q.now stats.now s.now }
@@ -138,7 +138,7 @@ fn by_place(
     set: u8,
     place: u8,
     first: Cheapest,
-) -> Result<Cheapest, AllocError>
+) -> Result<Cheapest, OutOfMemory>
     requires query { IsSoundQuery q.now }
     requires sound { IsSoundStats q.now stats.now }
     requires vector { IsSoundVector q.now stats.now s.now }
@@ -170,7 +170,7 @@ pub(crate) fn by_places(
     s: &[u64],
     cells: &[Cheapest],
     set: u8,
-) -> Result<Cheapest, AllocError>
+) -> Result<Cheapest, OutOfMemory>
     requires query { IsSoundQuery q.now }
     requires sound { IsSoundStats q.now stats.now }
     requires vector { IsSoundVector q.now stats.now s.now }

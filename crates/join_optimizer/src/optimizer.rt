@@ -9,13 +9,13 @@ use crate::search::cheapest_plans;
 use crate::tops::best_top;
 use plan_costs::{Best, Planner, Potentials};
 use plan_trees::{Stats, all_places};
-use row_values::Query;
-use std::alloc::{AllocError, Global};
+use row_values::{OutOfMemory, Query};
+use std::alloc::Global;
 use std::marker::Model;
 use std::rc::Rc;
 
 /// The best plan of the statement at the vector.
-fn best_plan(alloc: Global, q: &Query, stats: &Stats, s: &[u64]) -> Result<Best, AllocError>
+fn best_plan(alloc: Global, q: &Query, stats: &Stats, s: &[u64]) -> Result<Best, OutOfMemory>
     requires sound { IsSoundStats q.now stats.now }
     requires vector { IsSoundVector q.now stats.now s.now }
     ensures { IfOk result (λ best. IsBest q.now stats.now s.now best) }
@@ -39,7 +39,7 @@ pub fn optimise(
     stats: &Stats,
     s: &[u64],
     calls: &mut u64,
-) -> Result<Best, AllocError>
+) -> Result<Best, OutOfMemory>
     requires sound { IsSoundStats q.now stats.now }
     requires vector { IsSoundVector q.now stats.now s.now }
     requires room { calls.old < u64.MAX }
@@ -82,7 +82,7 @@ impl Planner for Optimizer {
         q: &Query,
         stats: &Stats,
         s: &[u64],
-    ) -> Result<Best, AllocError> {
+    ) -> Result<Best, OutOfMemory> {
         optimise(alloc, q, stats, s, &mut self.calls)
     }
 

@@ -5,7 +5,8 @@ ghost use Rattle.join_optimizer.specs.Potentials.{numbers};
 
 use crate::found::{Cheapest, Found};
 use plan_costs::Cell;
-use std::alloc::{AllocError, Global};
+use row_values::OutOfMemory;
+use std::alloc::Global;
 
 /// What the plan costs, if there is one.
 fn found_cost(found: &Option<Found>) -> Option<u128>
@@ -32,7 +33,7 @@ fn cell_numbers(cell: &Cheapest) -> Cell
 }
 
 /// The numbers of these sets, in order.
-pub(crate) fn potentials_of(alloc: Global, cells: &[Cheapest]) -> Result<Vec<Cell>, AllocError>
+pub(crate) fn potentials_of(alloc: Global, cells: &[Cheapest]) -> Result<Vec<Cell>, OutOfMemory>
     requires { All (λ cell. IsSome cell.any) cells.now }
     ensures { IfOk result (λ list. list.items ≡ map numbers cells.now) }
 {

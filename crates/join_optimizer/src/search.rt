@@ -10,8 +10,8 @@ use crate::hash_joins::by_splits;
 use crate::last_places::by_places;
 use crate::sorts::by_sort;
 use plan_trees::{Stats, all_places};
-use row_values::Query;
-use std::alloc::{AllocError, Global};
+use row_values::{OutOfMemory, Query};
+use std::alloc::Global;
 
 /// The cheapest plans of the set, over those of the smaller sets.
 fn cheapest_of(
@@ -21,7 +21,7 @@ fn cheapest_of(
     s: &[u64],
     cells: &[Cheapest],
     set: u8,
-) -> Result<Cheapest, AllocError>
+) -> Result<Cheapest, OutOfMemory>
     requires query { IsSoundQuery q.now }
     requires sound { IsSoundStats q.now stats.now }
     requires vector { IsSoundVector q.now stats.now s.now }
@@ -44,7 +44,7 @@ pub(crate) fn cheapest_plans(
     q: &Query,
     stats: &Stats,
     s: &[u64],
-) -> Result<Vec<Cheapest>, AllocError>
+) -> Result<Vec<Cheapest>, OutOfMemory>
     requires query { IsSoundQuery q.now }
     requires sound { IsSoundStats q.now stats.now }
     requires vector { IsSoundVector q.now stats.now s.now }

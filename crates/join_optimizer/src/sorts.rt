@@ -8,8 +8,8 @@ ghost use Rattle.join_optimizer.specs.Search.{Offered, TakesSort};
 use crate::found::{Cheapest, take_ordered};
 use plan_costs::sort_cost;
 use plan_trees::{Stats, has_wanted, wants_some_order};
-use row_values::Query;
-use std::alloc::{AllocError, Global};
+use row_values::{OutOfMemory, Query};
+use std::alloc::Global;
 
 /// Takes the cheapest plan, sorted, where the wanted order can be seen and no plan that has it costs less.
 pub(crate) fn by_sort(
@@ -19,7 +19,7 @@ pub(crate) fn by_sort(
     s: &[u64],
     set: u8,
     best: Cheapest,
-) -> Result<Cheapest, AllocError>
+) -> Result<Cheapest, OutOfMemory>
     requires query { IsSoundQuery q.now }
     requires sound { IsSoundStats q.now stats.now }
     requires vector { IsSoundVector q.now stats.now s.now }

@@ -13,9 +13,10 @@ use cost_model::COST_SCALE;
 use plan_costs::{Best, Planner};
 use plan_trees::{Indexed, Stats, Weights, print_plan};
 use row_values::{
-    ColRef, Column, Edge, Item, Kind, Operand, OrderKey, Place, Pred, Query, Schema, Test, Words,
+    ColRef, Column, Edge, Item, Kind, Operand, OrderKey, OutOfMemory, Place, Pred, Query, Schema,
+    Test, Words,
 };
-use std::alloc::{AllocError, Global};
+use std::alloc::Global;
 use std::test::Fail;
 
 const USUAL: Weights = Weights {
@@ -27,7 +28,7 @@ const USUAL: Weights = Weights {
     out: 1,
 };
 
-fn place(alloc: Global, name: &str, columns: [&str; 2]) -> Result<Option<Place>, AllocError> {
+fn place(alloc: Global, name: &str, columns: [&str; 2]) -> Result<Option<Place>, OutOfMemory> {
     let mut kept = Vec::new(alloc);
     for column in columns {
         kept.push(Column {
@@ -54,7 +55,7 @@ fn join_of(
     alloc: Global,
     tables: &[(&str, [&str; 2])],
     edges: &[(ColRef, ColRef)],
-) -> Result<Option<Query>, AllocError> {
+) -> Result<Option<Query>, OutOfMemory> {
     let mut places = Vec::new(alloc);
     for (name, columns) in tables {
         if let Some(entry) = place(alloc, name, *columns)? {
@@ -81,7 +82,7 @@ fn join_of(
 }
 
 /// The cost of any plan of each set, and of the plan in the wanted order.
-fn numbers(alloc: Global, best: &Best) -> Result<Vec<(u128, Option<u128>)>, AllocError> {
+fn numbers(alloc: Global, best: &Best) -> Result<Vec<(u128, Option<u128>)>, OutOfMemory> {
     let mut list = Vec::new(alloc);
     for cell in best.potentials.cells() {
         list.push((cell.any, cell.sorted))?;
@@ -89,7 +90,7 @@ fn numbers(alloc: Global, best: &Best) -> Result<Vec<(u128, Option<u128>)>, Allo
     Ok(list)
 }
 
-fn three_places(alloc: Global) -> Result<Option<Query>, AllocError> {
+fn three_places(alloc: Global) -> Result<Option<Query>, OutOfMemory> {
     join_of(
         alloc,
         &[("a", ["x", "y"]), ("b", ["x", "z"]), ("c", ["y", "z"])],
@@ -101,7 +102,7 @@ fn three_places(alloc: Global) -> Result<Option<Query>, AllocError> {
     )
 }
 
-fn three_tables(alloc: Global, q: &Query) -> Result<Option<Stats>, AllocError>
+fn three_tables(alloc: Global, q: &Query) -> Result<Option<Stats>, OutOfMemory>
     ensures sound { IfOk result (λ found. IfSome found (λ stats. IsSoundStats q.now stats)) }
     ensures vector { IfOk result (λ found. IfSome found (λ stats. IsSoundVector q.now stats [])) }
 {
@@ -165,7 +166,7 @@ fn three_tables_by_two_probes(rt: HostRuntime) -> Result<(), Fail> {
     Ok(())
 }
 
-fn in_order(alloc: Global) -> Result<Option<Query>, AllocError> {
+fn in_order(alloc: Global) -> Result<Option<Query>, OutOfMemory> {
     let mut places = Vec::new(alloc);
     if let Some(t) = place(alloc, "t", ["v", "w"])? {
         places.push(t)?;
@@ -202,7 +203,7 @@ fn is_below_parameter(pred: &Pred) -> bool
     }
 }
 
-fn thousand_rows(alloc: Global, q: &Query) -> Result<Option<Stats>, AllocError>
+fn thousand_rows(alloc: Global, q: &Query) -> Result<Option<Stats>, OutOfMemory>
     ensures sound { IfOk result (λ found. IfSome found (λ stats. IsSoundStats q.now stats)) }
     ensures many { IfOk result (λ found. IfSome found (λ stats. IsSoundVector q.now stats (500 ∷ []))) }
     ensures few { IfOk result (λ found. IfSome found (λ stats. IsSoundVector q.now stats (50 ∷ []))) }
@@ -268,7 +269,7 @@ fn an_order_worth_keeping(rt: HostRuntime) -> Result<(), Fail> {
     Ok(())
 }
 
-fn four_places(alloc: Global) -> Result<Option<Query>, AllocError> {
+fn four_places(alloc: Global) -> Result<Option<Query>, OutOfMemory> {
     join_of(
         alloc,
         &[
@@ -285,7 +286,7 @@ fn four_places(alloc: Global) -> Result<Option<Query>, AllocError> {
     )
 }
 
-fn four_tables(alloc: Global, q: &Query) -> Result<Option<Stats>, AllocError>
+fn four_tables(alloc: Global, q: &Query) -> Result<Option<Stats>, OutOfMemory>
     ensures sound { IfOk result (λ found. IfSome found (λ stats. IsSoundStats q.now stats)) }
     ensures vector { IfOk result (λ found. IfSome found (λ stats. IsSoundVector q.now stats [])) }
 {

@@ -10,8 +10,7 @@ ghost use Rattle.join_optimizer.specs.Tops.{IsCheapestTop, as_rows, cheaper_top,
 use crate::found::{Cheapest, Found};
 use plan_costs::card;
 use plan_trees::{Stats, Top, all_places, groups_rows, wants_some_order};
-use row_values::Query;
-use std::alloc::AllocError;
+use row_values::{OutOfMemory, Query};
 
 /// A finished plan with its cost.
 #[derive(Debug, Drop)]
@@ -21,7 +20,7 @@ pub(crate) struct Finished {
 }
 
 /// The rows of the plan as they come.
-fn rows_over(found: &Option<Found>) -> Result<Finished, AllocError>
+fn rows_over(found: &Option<Found>) -> Result<Finished, OutOfMemory>
     requires { IsSome found.now }
     ensures { IfOk result (λ finished. Some (seen_top finished) ≡ as_rows (seen found.now)) }
 {
@@ -35,7 +34,7 @@ fn rows_over(found: &Option<Found>) -> Result<Finished, AllocError>
 }
 
 /// The rows of the plan, grouped by a hash table that costs so much.
-fn hash_groups_over(found: &Option<Found>, cost: u128) -> Result<Finished, AllocError>
+fn hash_groups_over(found: &Option<Found>, cost: u128) -> Result<Finished, OutOfMemory>
     requires some { IsSome found.now }
     requires fits { IfSome found.now (λ below. below.cost + cost < 2 ^ 128) }
     ensures { IfOk result (λ finished. Some (seen_top finished) ≡ in_hash_groups cost (seen found.now)) }
@@ -54,7 +53,7 @@ fn or_sorted_groups(
     first: Finished,
     found: &Option<Found>,
     cost: u128,
-) -> Result<Finished, AllocError>
+) -> Result<Finished, OutOfMemory>
     requires { IfSome found.now (λ below. below.cost + cost < 2 ^ 128) }
     ensures { IfOk result (λ finished. Some (seen_top finished)
         ≡ cheaper_top (Some (seen_top first)) (in_sorted_groups cost (seen found.now))) }
@@ -71,7 +70,7 @@ fn or_sorted_groups(
 }
 
 /// The best finished plan where rows aren't grouped.
-fn best_rows(q: &Query, whole: &Cheapest) -> Result<Finished, AllocError>
+fn best_rows(q: &Query, whole: &Cheapest) -> Result<Finished, OutOfMemory>
     requires { IsSome (found_in (wants_order q.now) whole.now) }
     ensures { IfOk result (λ finished. Some (seen_top finished)
         ≡ as_rows (plan_in whole.now (wants_order q.now))) }
@@ -90,7 +89,7 @@ fn best_groups(
     stats: &Stats,
     s: &[u64],
     whole: &Cheapest,
-) -> Result<Finished, AllocError>
+) -> Result<Finished, OutOfMemory>
     requires query { IsSoundQuery q.now }
     requires sound { IsSoundStats q.now stats.now }
     requires vector { IsSoundVector q.now stats.now s.now }
@@ -113,7 +112,7 @@ pub(crate) fn best_top(
     stats: &Stats,
     s: &[u64],
     whole: &Cheapest,
-) -> Result<Finished, AllocError>
+) -> Result<Finished, OutOfMemory>
     requires query { IsSoundQuery q.now }
     requires sound { IsSoundStats q.now stats.now }
     requires vector { IsSoundVector q.now stats.now s.now }

@@ -17,9 +17,11 @@ use crate::parts::{bound_edges, bound_groups, bound_items, bound_keys, bound_pre
 use crate::places::{bound_places, first_repeated_alias};
 use crate::references::{first_ambiguous, first_unknown, refs_of};
 use crate::spelling::{item_shown, ref_shown};
-use row_values::{ColRef, PLACE_LIMIT, Place, Query, SELECTIVITY_LIMIT, Words, canonical_name};
+use row_values::{
+    ColRef, OutOfMemory, PLACE_LIMIT, Place, Query, SELECTIVITY_LIMIT, Words, canonical_name,
+};
 use sql_parser::{RawCond, RawItem, RawPlace, RawRef, Select};
-use std::alloc::{AllocError, Global};
+use std::alloc::Global;
 
 /// Refused at the first alias that equals an earlier one.
 fn check_aliases(alloc: Global, entries: &[RawPlace]) -> Result<(), BindFault>
@@ -107,7 +109,7 @@ fn statement(
     places: Vec<Place>,
     groups: Vec<ColRef>,
     s: &Select,
-) -> Result<Query, AllocError>
+) -> Result<Query, OutOfMemory>
     requires places { length places.items ≤ PLACE_LIMIT }
     requires parameters { parameterised_count s.now.conds ≤ SELECTIVITY_LIMIT }
     requires operands { refusals.has_long s.now.conds ≡ false }

@@ -1,6 +1,6 @@
 //! Why a statement can't be bound, in the order in which the refusals count.
-use row_values::Words;
-use std::alloc::{AllocError, AllocFailed};
+use row_values::{OutOfMemory, Words};
+use std::alloc::AllocFailed;
 
 /// Why a statement can't be bound, with what the refusal shows in canonical spelling.
 #[derive(Debug, Drop, PartialEq, Eq)]
@@ -25,13 +25,13 @@ pub enum BindFault {
     Memory,
 }
 
-impl From<AllocError> for BindFault {
+impl From<OutOfMemory> for BindFault {
     ghost use Rattle.std.specs.Prelude.{◌≡◌};
     ghost use Rattle.name_binder.specs.declared.faults.BindFault.TheVariants.{Memory};
 
     ghost from_gives = { λ _ fault. fault ≡ Memory };
 
-    fn from(_error: AllocError) -> BindFault {
+    fn from(_error: OutOfMemory) -> BindFault {
         BindFault::Memory
     }
 }

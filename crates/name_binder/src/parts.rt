@@ -11,11 +11,11 @@ ghost use Rattle.name_binder.specs.Binding as binding;
 use crate::limits::{operand_count, test_count};
 use crate::references::meant;
 use row_values::{
-    ColRef, Edge, Item, OPERAND_LIMIT, Operand, Operands, OrderKey, PLACE_LIMIT, Place, Pred,
-    SELECTIVITY_LIMIT, Test,
+    ColRef, Edge, Item, OPERAND_LIMIT, Operand, Operands, OrderKey, OutOfMemory, PLACE_LIMIT,
+    Place, Pred, SELECTIVITY_LIMIT, Test,
 };
 use sql_parser::{RawCond, RawItem, RawKey, RawOperand, RawOperands, RawRef, RawTest};
-use std::alloc::{AllocError, Global};
+use std::alloc::Global;
 
 /// The column that the reference means.
 pub fn col_ref(places: &[Place], r: &RawRef) -> ColRef
@@ -48,7 +48,7 @@ pub fn bound_items(
     alloc: Global,
     places: &[Place],
     items: &[RawItem],
-) -> Result<Vec<Item>, AllocError>
+) -> Result<Vec<Item>, OutOfMemory>
     requires { length places.now ≤ PLACE_LIMIT }
     ensures { IfOk result (λ bound. bound.items ≡ map (refusals.bound_item places.now) items.now) }
 {
@@ -64,7 +64,7 @@ pub fn bound_groups(
     alloc: Global,
     places: &[Place],
     groups: &[RawRef],
-) -> Result<Vec<ColRef>, AllocError>
+) -> Result<Vec<ColRef>, OutOfMemory>
     requires { length places.now ≤ PLACE_LIMIT }
     ensures { IfOk result (λ bound. bound.items ≡ refusals.bound_groups places.now groups.now) }
 {
@@ -80,7 +80,7 @@ pub fn bound_keys(
     alloc: Global,
     places: &[Place],
     order: &[RawKey],
-) -> Result<Vec<OrderKey>, AllocError>
+) -> Result<Vec<OrderKey>, OutOfMemory>
     requires { length places.now ≤ PLACE_LIMIT }
     ensures { IfOk result (λ bound. bound.items ≡ map (binding.bound_key places.now) order.now) }
 {
@@ -99,7 +99,7 @@ pub fn bound_edges(
     alloc: Global,
     places: &[Place],
     conds: &[RawCond],
-) -> Result<Vec<Edge>, AllocError>
+) -> Result<Vec<Edge>, OutOfMemory>
     requires { length places.now ≤ PLACE_LIMIT }
     ensures { IfOk result (λ edges. edges.items ≡ binding.edges_of places.now conds.now) }
 {
@@ -116,7 +116,7 @@ pub fn bound_edges(
 }
 
 /// The operand, a parameter with this number.
-fn operand_from(alloc: Global, next: u8, operand: &RawOperand) -> Result<Operand, AllocError>
+fn operand_from(alloc: Global, next: u8, operand: &RawOperand) -> Result<Operand, OutOfMemory>
     ensures { IfOk result (λ bound. bound ≡ binding.operand_from next operand.now) }
 {
     match operand {
@@ -130,7 +130,7 @@ fn operands_from(
     alloc: Global,
     first: u8,
     operands: &[RawOperand],
-) -> Result<Vec<Operand>, AllocError>
+) -> Result<Vec<Operand>, OutOfMemory>
     requires first { first ≤ 128 }
     requires few { length operands.now ≤ OPERAND_LIMIT }
     ensures { IfOk result (λ bound. bound.items ≡ binding.operands_from first operands.now) }
@@ -145,7 +145,7 @@ fn operands_from(
 }
 
 /// The IN, its parameters with the numbers from this one on.
-fn one_of(alloc: Global, next: u8, operands: &RawOperands) -> Result<Test, AllocError>
+fn one_of(alloc: Global, next: u8, operands: &RawOperands) -> Result<Test, OutOfMemory>
     requires next { next ≤ 128 }
     requires few { refusals.is_long (RawTest.OneOf operands.now) ≡ false }
     ensures { IfOk result (λ bound. bound ≡ binding.test_from next (RawTest.OneOf operands.now)) }
@@ -158,7 +158,7 @@ fn one_of(alloc: Global, next: u8, operands: &RawOperands) -> Result<Test, Alloc
 }
 
 /// The test, its parameters with the numbers from this one on.
-fn test_from(alloc: Global, next: u8, test: &RawTest) -> Result<Test, AllocError>
+fn test_from(alloc: Global, next: u8, test: &RawTest) -> Result<Test, OutOfMemory>
     requires next { next ≤ 128 }
     requires few { refusals.is_long test.now ≡ false }
     ensures { IfOk result (λ bound. bound ≡ binding.test_from next test.now) }
@@ -183,7 +183,7 @@ pub fn bound_preds(
     alloc: Global,
     places: &[Place],
     conds: &[RawCond],
-) -> Result<Vec<Pred>, AllocError>
+) -> Result<Vec<Pred>, OutOfMemory>
     requires places { length places.now ≤ PLACE_LIMIT }
     requires parameters { parameterised_count conds.now ≤ SELECTIVITY_LIMIT }
     requires operands { refusals.has_long conds.now ≡ false }

@@ -7,9 +7,9 @@ ghost use Rattle.std.specs.Option.{option_map};
 ghost use Rattle.row_values.specs.Columns.{is_name_in};
 ghost use Rattle.name_binder.specs.References as names;
 
-use row_values::{Column, Kind, Place, Schema, Words};
+use row_values::{Column, Kind, OutOfMemory, Place, Schema, Words};
 use sql_parser::{RawCond, RawItem, RawKey, RawRef, Select};
-use std::alloc::{AllocError, Global};
+use std::alloc::Global;
 
 /// Whether a column has the name.
 fn has_column(columns: &[Column], name: &Words) -> bool
@@ -131,7 +131,7 @@ pub fn item_ref(item: &RawItem) -> Option<&RawRef>
 }
 
 /// Adds the references of items.
-fn push_item_refs<'a>(refs: &mut Vec<&'a RawRef>, items: &'a [RawItem]) -> Result<(), AllocError>
+fn push_item_refs<'a>(refs: &mut Vec<&'a RawRef>, items: &'a [RawItem]) -> Result<(), OutOfMemory>
     ensures { OnOk result (map (λ r. r.now) refs.new.items ≡ map (λ r. r.now) refs.old.items ++ filter_map names.item_ref items.now) }
 {
     for item in items {
@@ -143,7 +143,7 @@ fn push_item_refs<'a>(refs: &mut Vec<&'a RawRef>, items: &'a [RawItem]) -> Resul
 }
 
 /// Adds the references of conditions.
-fn push_cond_refs<'a>(refs: &mut Vec<&'a RawRef>, conds: &'a [RawCond]) -> Result<(), AllocError>
+fn push_cond_refs<'a>(refs: &mut Vec<&'a RawRef>, conds: &'a [RawCond]) -> Result<(), OutOfMemory>
     ensures { OnOk result (map (λ r. r.now) refs.new.items ≡ map (λ r. r.now) refs.old.items ++ flat_map names.cond_refs conds.now) }
 {
     for cond in conds {
@@ -159,7 +159,7 @@ fn push_cond_refs<'a>(refs: &mut Vec<&'a RawRef>, conds: &'a [RawCond]) -> Resul
 }
 
 /// Adds the references of GROUP BY.
-fn push_group_refs<'a>(refs: &mut Vec<&'a RawRef>, groups: &'a [RawRef]) -> Result<(), AllocError>
+fn push_group_refs<'a>(refs: &mut Vec<&'a RawRef>, groups: &'a [RawRef]) -> Result<(), OutOfMemory>
     ensures { OnOk result (map (λ r. r.now) refs.new.items ≡ map (λ r. r.now) refs.old.items ++ groups.now) }
 {
     for r in groups {
@@ -169,7 +169,7 @@ fn push_group_refs<'a>(refs: &mut Vec<&'a RawRef>, groups: &'a [RawRef]) -> Resu
 }
 
 /// Adds the references of ORDER BY.
-fn push_key_refs<'a>(refs: &mut Vec<&'a RawRef>, order: &'a [RawKey]) -> Result<(), AllocError>
+fn push_key_refs<'a>(refs: &mut Vec<&'a RawRef>, order: &'a [RawKey]) -> Result<(), OutOfMemory>
     ensures { OnOk result (map (λ r. r.now) refs.new.items ≡ map (λ r. r.now) refs.old.items ++ map (λ key. key.at) order.now) }
 {
     for key in order {
@@ -179,7 +179,7 @@ fn push_key_refs<'a>(refs: &mut Vec<&'a RawRef>, order: &'a [RawKey]) -> Result<
 }
 
 /// All references in text order.
-pub fn refs_of<'a>(alloc: Global, s: &'a Select) -> Result<Vec<&'a RawRef>, AllocError>
+pub fn refs_of<'a>(alloc: Global, s: &'a Select) -> Result<Vec<&'a RawRef>, OutOfMemory>
     ensures { IfOk result (λ refs. map (λ r. r.now) refs.items ≡ names.refs_of s.now) }
 {
     let mut refs = Vec::new(alloc);

@@ -4,12 +4,12 @@
 ghost use Rattle.std.specs.Prelude.{◌≡◌, ◌++◌, IfOk, OnOk, codes, string_bytes};
 ghost use Rattle.name_binder.specs.Spelling as spelled;
 
-use row_values::{Words, push_name};
+use row_values::{OutOfMemory, Words, push_name};
 use sql_parser::{RawItem, RawRef};
-use std::alloc::{AllocError, Global};
+use std::alloc::Global;
 
 /// Adds a reference as it was written.
-fn push_ref(out: &mut String, r: &RawRef) -> Result<(), AllocError>
+fn push_ref(out: &mut String, r: &RawRef) -> Result<(), OutOfMemory>
     ensures { OnOk result (string_bytes out.new ≡ string_bytes out.old ++ spelled.ref_text r.now) }
 {
     if let Some(alias) = &r.alias {
@@ -21,7 +21,7 @@ fn push_ref(out: &mut String, r: &RawRef) -> Result<(), AllocError>
 }
 
 /// Adds an aggregate of a reference.
-fn push_call(out: &mut String, call: &str, r: &RawRef) -> Result<(), AllocError>
+fn push_call(out: &mut String, call: &str, r: &RawRef) -> Result<(), OutOfMemory>
     ensures { OnOk result (string_bytes out.new ≡ string_bytes out.old ++ call.now ++ spelled.ref_text r.now ++ codes ")") }
 {
     out.push_str(call)?;
@@ -31,7 +31,7 @@ fn push_call(out: &mut String, call: &str, r: &RawRef) -> Result<(), AllocError>
 }
 
 /// Adds an item.
-fn push_item(out: &mut String, item: &RawItem) -> Result<(), AllocError>
+fn push_item(out: &mut String, item: &RawItem) -> Result<(), OutOfMemory>
     ensures { OnOk result (string_bytes out.new ≡ string_bytes out.old ++ spelled.item_text item.now) }
 {
     match item {
@@ -45,7 +45,7 @@ fn push_item(out: &mut String, item: &RawItem) -> Result<(), AllocError>
 }
 
 /// The canonical spelling of a reference.
-pub fn ref_shown(alloc: Global, r: &RawRef) -> Result<Words, AllocError>
+pub fn ref_shown(alloc: Global, r: &RawRef) -> Result<Words, OutOfMemory>
     ensures { IfOk result (λ words. words ≡ spelled.ref_text r.now) }
 {
     let mut out = String::new(alloc);
@@ -54,7 +54,7 @@ pub fn ref_shown(alloc: Global, r: &RawRef) -> Result<Words, AllocError>
 }
 
 /// The canonical spelling of an item.
-pub fn item_shown(alloc: Global, item: &RawItem) -> Result<Words, AllocError>
+pub fn item_shown(alloc: Global, item: &RawItem) -> Result<Words, OutOfMemory>
     ensures { IfOk result (λ words. words ≡ spelled.item_text item.now) }
 {
     let mut out = String::new(alloc);

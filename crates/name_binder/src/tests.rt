@@ -1,8 +1,10 @@
 //! Statements over three tables: what they are bound to, and how each refusal stands against the later ones.
 use super::*;
-use row_values::{ColRef, Column, Item, Kind, Operand, Query, Schema, Test, Value, Words};
+use row_values::{
+    ColRef, Column, Item, Kind, Operand, OutOfMemory, Query, Schema, Test, Value, Words,
+};
 use sql_parser::{Select, parse};
-use std::alloc::{AllocError, Global};
+use std::alloc::Global;
 use std::test::Fail;
 
 /// Three tables in memory: `t` of two numbers and a text, `u` of a number and a text, `order` of two numbers.
@@ -54,12 +56,12 @@ fn three_tables(alloc: Global) -> Result<Tables, Fail> {
     })
 }
 
-fn push_column(out: &mut String, alloc: Global, at: ColRef) -> Result<(), AllocError> {
+fn push_column(out: &mut String, alloc: Global, at: ColRef) -> Result<(), OutOfMemory> {
     out.push_str(&format!(in alloc; " {}.{}", at.place, at.column)?)?;
     Ok(())
 }
 
-fn push_operand(out: &mut String, alloc: Global, operand: &Operand) -> Result<(), AllocError> {
+fn push_operand(out: &mut String, alloc: Global, operand: &Operand) -> Result<(), OutOfMemory> {
     match operand {
         Operand::Literal(Value::Int(number)) => out.push_str(&format!(in alloc; "{number}")?)?,
         Operand::Literal(Value::Text(text)) => out.push_str(text.as_str())?,
@@ -68,7 +70,7 @@ fn push_operand(out: &mut String, alloc: Global, operand: &Operand) -> Result<()
     Ok(())
 }
 
-fn push_test(out: &mut String, alloc: Global, test: &Test) -> Result<(), AllocError> {
+fn push_test(out: &mut String, alloc: Global, test: &Test) -> Result<(), OutOfMemory> {
     let (sign, operand) = match test {
         Test::Lt(a) => ("<", a),
         Test::Le(a) => ("<=", a),
@@ -93,7 +95,7 @@ fn push_test(out: &mut String, alloc: Global, test: &Test) -> Result<(), AllocEr
     push_operand(out, alloc, operand)
 }
 
-fn push_item(out: &mut String, alloc: Global, item: &Item) -> Result<(), AllocError> {
+fn push_item(out: &mut String, alloc: Global, item: &Item) -> Result<(), OutOfMemory> {
     match item {
         Item::Column(at) => push_column(out, alloc, *at),
         Item::CountAll => out.push_str(" count"),
@@ -113,7 +115,7 @@ fn push_item(out: &mut String, alloc: Global, item: &Item) -> Result<(), AllocEr
 }
 
 /// A bound statement in short: tables and aliases, predicates, edges, items, groups, order.
-fn summary(alloc: Global, q: &Query) -> Result<String, AllocError> {
+fn summary(alloc: Global, q: &Query) -> Result<String, OutOfMemory> {
     let mut out = String::new(alloc);
     for place in q.places() {
         out.push_str(&format!(in alloc; "{}:{} ", place.table.as_str(), place.alias.as_str())?)?;
@@ -147,7 +149,7 @@ fn summary(alloc: Global, q: &Query) -> Result<String, AllocError> {
     Ok(out)
 }
 
-fn refusal(alloc: Global, fault: &BindFault) -> Result<String, AllocError> {
+fn refusal(alloc: Global, fault: &BindFault) -> Result<String, OutOfMemory> {
     let (words, shown) = match fault {
         BindFault::UnknownTable(shown) => ("unknown table", shown),
         BindFault::AliasTwice(shown) => ("alias twice", shown),
@@ -157,7 +159,7 @@ fn refusal(alloc: Global, fault: &BindFault) -> Result<String, AllocError> {
         BindFault::TooMany(shown) => ("too many", shown),
         BindFault::NotGrouped(shown) => ("not grouped", shown),
         BindFault::SumOfText(shown) => ("sum of text", shown),
-        BindFault::Memory => return Err(AllocError),
+        BindFault::Memory => return Err(OutOfMemory),
     };
     format!(in alloc; "{words} {}", shown.as_str())
 }
@@ -442,7 +444,7 @@ fn the_first_refusal_counts(rt: HostRuntime) -> Result<(), Fail> {
 }
 
 /// The first piece once, and the next so many times.
-fn repeated(alloc: Global, first: &str, next: &str, count: usize) -> Result<String, AllocError> {
+fn repeated(alloc: Global, first: &str, next: &str, count: usize) -> Result<String, OutOfMemory> {
     let mut out = String::from_str(alloc, first)?;
     for _ in 0..count {
         out.push_str(next)?;

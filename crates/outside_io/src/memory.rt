@@ -11,7 +11,8 @@ ghost use Rattle.outside_io.specs.Calls.{Gives, Fetches, Puts, misses_after};
 ghost use Rattle.outside_io.specs.Memory.{has_name, bytes_at, KeepsOthers, takes_at, fails_at, after_fetch, PutsInMemory};
 
 use crate::{Fetched, Put, Shelf, Sink};
-use std::alloc::{AllocError, Global};
+use row_values::OutOfMemory;
+use std::alloc::Global;
 use std::marker::Model;
 
 #[cfg(test)]
@@ -53,7 +54,7 @@ fn position_of(files: &[File], name: &str) -> Option<usize>
 }
 
 /// Gives the name these bytes, in place of those before; after want of memory the files are as before.
-fn give(files: &mut Vec<File>, alloc: Global, name: &str, bytes: &[u8]) -> Result<(), AllocError>
+fn give(files: &mut Vec<File>, alloc: Global, name: &str, bytes: &[u8]) -> Result<(), OutOfMemory>
     ensures given { OnOk result (bytes_at files.new.items name.now ≡ Some bytes.now) }
     ensures others { KeepsOthers files.old.items files.new.items name.now }
     ensures unchanged { OnErr result (files.new.items ≡ files.old.items) }
@@ -82,7 +83,7 @@ fn first(bytes: &[u8], count: usize) -> &[u8]
 
 /// Appends the first `limit + 1` of these bytes, or all where there are fewer; where memory is short, none.
 #[tactic(auto, unfolding(outside_model::specs::Files::up_to))]
-fn copy_up_to(bytes: &[u8], limit: usize, into: &mut Vec<u8>) -> Result<(), AllocError>
+fn copy_up_to(bytes: &[u8], limit: usize, into: &mut Vec<u8>) -> Result<(), OutOfMemory>
     requires { limit < usize.MAX }
     ensures ok { OnOk result (into.new.items ≡ into.old.items ++ up_to limit bytes.now) }
     ensures err { OnErr result (into.new.items ≡ into.old.items) }
@@ -150,7 +151,7 @@ impl MemShelf {
     }
 
     /// Gives the name these bytes, in place of those before; after want of memory the shelf is as before.
-    pub fn put_file(&mut self, name: &str, bytes: &[u8]) -> Result<(), AllocError>
+    pub fn put_file(&mut self, name: &str, bytes: &[u8]) -> Result<(), OutOfMemory>
         ensures given { OnOk result (bytes_at self.new.files name.now ≡ Some bytes.now) }
         ensures others { KeepsOthers self.old.files self.new.files name.now }
         ensures rest { self.new ≡ record self.old { files = self.new.files } }
@@ -160,7 +161,7 @@ impl MemShelf {
     }
 
     /// Lets that fetch fail; after want of memory the shelf is as before.
-    pub fn fail_at(&mut self, call: u64) -> Result<(), AllocError>
+    pub fn fail_at(&mut self, call: u64) -> Result<(), OutOfMemory>
         ensures ok { OnOk result (self.new ≡ record self.old { failing = self.old.failing ++ call ∷ [] }) }
         ensures unchanged { OnErr result (self.new ≡ self.old) }
     {
@@ -237,7 +238,7 @@ impl SureShelf {
     }
 
     /// Gives the name these bytes, in place of those before; after want of memory the shelf is as before.
-    pub fn put_file(&mut self, name: &str, bytes: &[u8]) -> Result<(), AllocError>
+    pub fn put_file(&mut self, name: &str, bytes: &[u8]) -> Result<(), OutOfMemory>
         ensures given { OnOk result (bytes_at self.new.files name.now ≡ Some bytes.now) }
         ensures others { KeepsOthers self.old.files self.new.files name.now }
         ensures rest { self.new ≡ record self.old { files = self.new.files } }
@@ -328,7 +329,7 @@ impl MemSink {
 
     /// Lets that put fail after the first `takes` bytes of its piece, or after all where there are fewer. What is
     /// said last of a put counts. After want of memory the sink is as before.
-    pub fn fail_at(&mut self, call: u64, takes: usize) -> Result<(), AllocError>
+    pub fn fail_at(&mut self, call: u64, takes: usize) -> Result<(), OutOfMemory>
         ensures ok { OnOk result (self.new ≡ record self.old {
           failing = record { call = call; takes = takes } ∷ self.old.failing;
         }) }

@@ -24,19 +24,19 @@ use plan_trees::{
     Access, Plan, Stats, StepKind, Top, has_place, one_place, place_read, step_place, with_place,
     with_places,
 };
-use row_values::{Pred, Query};
-use std::alloc::{AllocError, Global};
+use row_values::{OutOfMemory, Pred, Query};
+use std::alloc::Global;
 use std::rc::Rc;
 
 /// The sum of both.
-fn sum(alloc: Global, left: Expr, right: Expr) -> Result<Expr, AllocError>
+fn sum(alloc: Global, left: Expr, right: Expr) -> Result<Expr, OutOfMemory>
     ensures { IfOk result (λ e. formula e ≡ Plus (formula left) (formula right)) }
 {
     Ok(Expr::Sum(Rc::new(alloc, left)?, Rc::new(alloc, right)?))
 }
 
 /// The product of both.
-fn product(alloc: Global, left: Expr, right: Expr) -> Result<Expr, AllocError>
+fn product(alloc: Global, left: Expr, right: Expr) -> Result<Expr, OutOfMemory>
     ensures { IfOk result (λ e. formula e ≡ Times (formula left) (formula right)) }
 {
     Ok(Expr::Mul(Rc::new(alloc, left)?, Rc::new(alloc, right)?))
@@ -49,7 +49,7 @@ fn with_selectivity(
     set: u8,
     place: u8,
     next: u8,
-) -> Result<Expr, AllocError>
+) -> Result<Expr, OutOfMemory>
     ensures { IfOk result (λ made. formula made
         ≡ (if has set place then Times (formula e) (Selectivity next) else formula e)) }
 {
@@ -61,7 +61,7 @@ fn with_selectivity(
 }
 
 /// The expression times the selectivities of the predicates on the places of the set.
-fn with_selectivities(alloc: Global, e: Expr, preds: &[Pred], set: u8) -> Result<Expr, AllocError>
+fn with_selectivities(alloc: Global, e: Expr, preds: &[Pred], set: u8) -> Result<Expr, OutOfMemory>
     requires { selectivity_count preds.now ≤ SELECTIVITY_LIMIT }
     ensures { IfOk result (λ made. formula made
         ≡ selected set 0 (formula e) (selectivity_places preds.now)) }
@@ -78,7 +78,7 @@ fn with_selectivities(alloc: Global, e: Expr, preds: &[Pred], set: u8) -> Result
 }
 
 /// The cardinality of the set of places.
-fn card_expr(alloc: Global, q: &Query, stats: &Stats, set: u8) -> Result<Expr, AllocError>
+fn card_expr(alloc: Global, q: &Query, stats: &Stats, set: u8) -> Result<Expr, OutOfMemory>
     requires { IsSoundStats q.now stats.now }
     ensures { IfOk result (λ e. formula e ≡ card_formula q.now stats.now set) }
 {
@@ -93,7 +93,7 @@ fn weighed_card(
     stats: &Stats,
     weight: u128,
     set: u8,
-) -> Result<Expr, AllocError>
+) -> Result<Expr, OutOfMemory>
     requires { IsSoundStats q.now stats.now }
     ensures { IfOk result (λ e. formula e ≡ Times (Constant weight) (card_formula q.now stats.now set)) }
 {
@@ -101,7 +101,7 @@ fn weighed_card(
 }
 
 /// What the rows that come out cost, where they are those of this set of places.
-fn out_expr(alloc: Global, q: &Query, stats: &Stats, set: u8) -> Result<Expr, AllocError>
+fn out_expr(alloc: Global, q: &Query, stats: &Stats, set: u8) -> Result<Expr, OutOfMemory>
     requires { IsSoundStats q.now stats.now }
     ensures { IfOk result (λ e. formula e ≡ out_formula q.now stats.now set) }
 {
@@ -109,7 +109,7 @@ fn out_expr(alloc: Global, q: &Query, stats: &Stats, set: u8) -> Result<Expr, Al
 }
 
 /// One descent in an index of the place, and the rows of this selectivity that it finds.
-fn found_expr(alloc: Global, stats: &Stats, place: u8, next: u8) -> Result<Expr, AllocError>
+fn found_expr(alloc: Global, stats: &Stats, place: u8, next: u8) -> Result<Expr, OutOfMemory>
     requires { place < length stats.now.rows }
     ensures { IfOk result (λ e. formula e ≡ found_formula stats.now place next) }
 {
@@ -126,7 +126,7 @@ fn range_expr(
     stats: &Stats,
     place: u8,
     pred: u8,
-) -> Result<Expr, AllocError>
+) -> Result<Expr, OutOfMemory>
     requires sound { IsSoundStats q.now stats.now }
     requires place { place < length q.now.places }
     requires pred { pred < length q.now.preds }
@@ -142,7 +142,7 @@ fn range_expr(
 }
 
 /// What one run of the access costs, in rows.
-fn unit_expr(alloc: Global, q: &Query, stats: &Stats, access: Access) -> Result<Expr, AllocError>
+fn unit_expr(alloc: Global, q: &Query, stats: &Stats, access: Access) -> Result<Expr, OutOfMemory>
     requires sound { IsSoundStats q.now stats.now }
     requires valid { IsValidAccess q.now stats.now.indexed access }
     ensures { IfOk result (λ e. formula e ≡ unit_formula q.now stats.now access) }
@@ -158,7 +158,7 @@ fn unit_expr(alloc: Global, q: &Query, stats: &Stats, access: Access) -> Result<
 }
 
 /// What a step costs for each row so far: a run of its access, or a look-up.
-fn run_expr(alloc: Global, q: &Query, stats: &Stats, step: StepKind) -> Result<Expr, AllocError>
+fn run_expr(alloc: Global, q: &Query, stats: &Stats, step: StepKind) -> Result<Expr, OutOfMemory>
     requires query { IsSoundQuery q.now }
     requires sound { IsSoundStats q.now stats.now }
     requires valid { (set : ℕ) × IsValidStep q.now stats.now.indexed set step }
@@ -180,7 +180,7 @@ fn step_expr(
     stats: &Stats,
     set: u8,
     step: StepKind,
-) -> Result<Expr, AllocError>
+) -> Result<Expr, OutOfMemory>
     requires query { IsSoundQuery q.now }
     requires sound { IsSoundStats q.now stats.now }
     requires small { set < 32 }
@@ -200,7 +200,7 @@ fn join_expr(
     stats: &Stats,
     left: u8,
     right: u8,
-) -> Result<Expr, AllocError>
+) -> Result<Expr, OutOfMemory>
     requires sound { IsSoundStats q.now stats.now }
     requires left { left < 32 }
     requires right { right < 32 }
@@ -216,7 +216,7 @@ fn join_expr(
 }
 
 /// What it costs to sort the rows of the set.
-fn sort_expr(alloc: Global, q: &Query, stats: &Stats, set: u8) -> Result<Expr, AllocError>
+fn sort_expr(alloc: Global, q: &Query, stats: &Stats, set: u8) -> Result<Expr, OutOfMemory>
     requires { IsSoundStats q.now stats.now }
     ensures { IfOk result (λ e. formula e ≡ sort_formula q.now stats.now set) }
 {
@@ -237,7 +237,7 @@ fn after_step(
     stats: &Stats,
     outer: Costing,
     step: StepKind,
-) -> Result<Costing, AllocError>
+) -> Result<Costing, OutOfMemory>
     requires query { IsSoundQuery q.now }
     requires sound { IsSoundStats q.now stats.now }
     requires small { outer.set < 32 }
@@ -259,7 +259,7 @@ fn after_join(
     stats: &Stats,
     outer: Costing,
     inner: Costing,
-) -> Result<Costing, AllocError>
+) -> Result<Costing, OutOfMemory>
     requires sound { IsSoundStats q.now stats.now }
     requires left { outer.set < 32 }
     requires right { inner.set < 32 }
@@ -277,7 +277,7 @@ fn after_join(
 }
 
 /// The cost of a plan, and its places.
-fn plan_costing(alloc: Global, q: &Query, stats: &Stats, p: &Plan) -> Result<Costing, AllocError>
+fn plan_costing(alloc: Global, q: &Query, stats: &Stats, p: &Plan) -> Result<Costing, OutOfMemory>
     requires query { IsSoundQuery q.now }
     requires sound { IsSoundStats q.now stats.now }
     requires valid { IsValidPlan q.now stats.now.indexed (tree p.now) }
@@ -320,7 +320,7 @@ fn grouped_expr(
     stats: &Stats,
     weight: u16,
     p: &Plan,
-) -> Result<Expr, AllocError>
+) -> Result<Expr, OutOfMemory>
     requires query { IsSoundQuery q.now }
     requires sound { IsSoundStats q.now stats.now }
     requires valid { IsValidPlan q.now stats.now.indexed (tree p.now) }
@@ -332,7 +332,7 @@ fn grouped_expr(
 }
 
 /// The formula of a plan under its top.
-fn top_expr(alloc: Global, q: &Query, stats: &Stats, p: &Top) -> Result<Expr, AllocError>
+fn top_expr(alloc: Global, q: &Query, stats: &Stats, p: &Top) -> Result<Expr, OutOfMemory>
     requires query { IsSoundQuery q.now }
     requires sound { IsSoundStats q.now stats.now }
     requires valid { IsValidTop q.now stats.now.indexed (top_tree p.now) }
@@ -350,7 +350,7 @@ fn top_expr(alloc: Global, q: &Query, stats: &Stats, p: &Top) -> Result<Expr, Al
 }
 
 /// What a plan costs, as an expression of the selectivities.
-pub fn expr_of(alloc: Global, q: &Query, stats: &Stats, p: &Top) -> Result<Expr, AllocError>
+pub fn expr_of(alloc: Global, q: &Query, stats: &Stats, p: &Top) -> Result<Expr, OutOfMemory>
     requires sound { IsSoundStats q.now stats.now }
     requires valid { IsValidTop q.now stats.now.indexed (top_tree p.now) }
     ensures value { IfOk result (λ e. (s : List ℕ) → IsVectorOf q.now s

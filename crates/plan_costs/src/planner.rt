@@ -5,8 +5,8 @@ ghost use Rattle.plan_costs.specs.BestPlans.{IsBest};
 
 use crate::potentials::Potentials;
 use plan_trees::{Stats, Top};
-use row_values::Query;
-use std::alloc::{AllocError, Global};
+use row_values::{OutOfMemory, Query};
+use std::alloc::Global;
 use std::rc::Rc;
 
 /// A plan of least cost, its cost, and for each set of places the least costs of its plans.
@@ -28,7 +28,7 @@ pub trait Planner {
         q: &Query,
         stats: &Stats,
         s: &[u64],
-    ) -> Result<Best, AllocError>
+    ) -> Result<Best, OutOfMemory>
         requires sound { IsSoundStats q.now stats.now }
         requires vector { IsSoundVector q.now stats.now s.now }
         requires room { asked self.old < 2 ^ 63 }

@@ -14,11 +14,11 @@ use crate::formulas::expr_of;
 use cost_polynomials::Poly;
 use growth_checker::{ShapeFault, shape};
 use plan_trees::{Stats, Top};
-use row_values::Query;
-use std::alloc::{AllocError, Global};
+use row_values::{OutOfMemory, Query};
+use std::alloc::Global;
 
 /// What a plan costs, as a polynomial in the selectivities.
-pub fn poly_of(alloc: Global, q: &Query, stats: &Stats, p: &Top) -> Result<Poly, AllocError>
+pub fn poly_of(alloc: Global, q: &Query, stats: &Stats, p: &Top) -> Result<Poly, OutOfMemory>
     requires sound { IsSoundStats q.now stats.now }
     requires valid { IsValidTop q.now stats.now.indexed (top_tree p.now) }
     ensures value { IfOk result (λ poly. (s : List ℕ) → IsVectorOf q.now s
@@ -31,7 +31,7 @@ pub fn poly_of(alloc: Global, q: &Query, stats: &Stats, p: &Top) -> Result<Poly,
     let cost = expr_of(alloc, q, stats, p)?;
     match shape(alloc, &cost) {
         Ok(poly) => Ok(poly),
-        Err(ShapeFault::Memory) => Err(AllocError),
+        Err(ShapeFault::Memory) => Err(OutOfMemory),
         Err(ShapeFault::Shared(_)) => unreachable!(),
         Err(ShapeFault::Large) => unreachable!(),
     }

@@ -17,9 +17,9 @@ use plan_trees::{
     is_valid_step, valid,
 };
 use row_values::{
-    ColRef, Column, Edge, Item, Kind, Operand, Place, Pred, Query, Schema, Test, Words,
+    ColRef, Column, Edge, Item, Kind, Operand, OutOfMemory, Place, Pred, Query, Schema, Test, Words,
 };
-use std::alloc::{AllocError, Global};
+use std::alloc::Global;
 use std::rc::Rc;
 use std::test::Fail;
 
@@ -32,7 +32,7 @@ const USUAL: Weights = Weights {
     out: 1,
 };
 
-fn place(alloc: Global, name: &str, columns: [&str; 2]) -> Result<Option<Place>, AllocError> {
+fn place(alloc: Global, name: &str, columns: [&str; 2]) -> Result<Option<Place>, OutOfMemory> {
     let mut kept = Vec::new(alloc);
     for column in columns {
         kept.push(Column {
@@ -54,7 +54,7 @@ fn at(place: u8, column: u8) -> ColRef {
     ColRef { place, column }
 }
 
-fn below(alloc: Global) -> Result<Option<Query>, AllocError> {
+fn below(alloc: Global) -> Result<Option<Query>, OutOfMemory> {
     let mut places = Vec::new(alloc);
     if let Some(t) = place(alloc, "t", ["v", "w"])? {
         places.push(t)?;
@@ -76,7 +76,7 @@ fn below(alloc: Global) -> Result<Option<Query>, AllocError> {
     ))
 }
 
-fn thousand_rows(alloc: Global, q: &Query) -> Result<Option<Stats>, AllocError>
+fn thousand_rows(alloc: Global, q: &Query) -> Result<Option<Stats>, OutOfMemory>
     ensures sound { IfOk result (λ found. IfSome found (λ stats. IsSoundStats q.now stats)) }
     ensures vector { IfOk result (λ found. IfSome found (λ stats.
         (n : ℕ) → 1 ≤ n → n ≤ 1000 → IsSoundVector q.now stats (n ∷ []))) }
@@ -146,7 +146,7 @@ fn poly_if_valid(
     q: &Query,
     stats: &Stats,
     plan: Plan,
-) -> Result<Option<Poly>, AllocError>
+) -> Result<Option<Poly>, OutOfMemory>
     requires { IsSoundStats q.now stats.now }
     ensures { IfOk result (λ found. IfSome found (λ poly. (s : List ℕ) → IsVectorOf q.now s
         → All (λ count. 1 ≤ count) s → IsVectorFor poly s)) }
@@ -190,7 +190,7 @@ fn a_range_of_a_thousand_rows_as_a_polynomial(rt: HostRuntime) -> Result<(), Fai
     Ok(())
 }
 
-fn three_places(alloc: Global) -> Result<Option<Query>, AllocError> {
+fn three_places(alloc: Global) -> Result<Option<Query>, OutOfMemory> {
     let mut places = Vec::new(alloc);
     for (name, columns) in [("a", ["x", "y"]), ("b", ["x", "z"]), ("c", ["y", "z"])] {
         if let Some(entry) = place(alloc, name, columns)? {
@@ -217,7 +217,7 @@ fn three_places(alloc: Global) -> Result<Option<Query>, AllocError> {
     ))
 }
 
-fn three_tables(alloc: Global, q: &Query) -> Result<Option<Stats>, AllocError>
+fn three_tables(alloc: Global, q: &Query) -> Result<Option<Stats>, OutOfMemory>
     ensures places { IfOk result (λ found. IfSome found (λ stats. length q.now.places ≡ 3)) }
     ensures sound { IfOk result (λ found. IfSome found (λ stats. IsSoundStats q.now stats)) }
     ensures vector { IfOk result (λ found. IfSome found (λ stats. IsSoundVector q.now stats [])) }

@@ -7,8 +7,8 @@ ghost use Rattle.row_tests.specs.Ready.{all_hold};
 
 use csv_tables::Table;
 use row_tests::{Ready, passes, ready_preds};
-use row_values::{Query, Value};
-use std::alloc::{AllocError, Global};
+use row_values::{OutOfMemory, Query, Value};
+use std::alloc::Global;
 
 /// The numbers of the rows that meet all of these, rising.
 #[tactic(auto, using(crate::proofs::Scanned::scan_more))]
@@ -17,7 +17,7 @@ fn passing_rows(
     table: &Table,
     args: &[Value],
     ready: &[Ready],
-) -> Result<Vec<u32>, AllocError>
+) -> Result<Vec<u32>, OutOfMemory>
     ensures { IfOk result (λ rows. rows.items ≡ filter (λ row. all_hold args.now ready.now (slice_index_or table.now.rows row [])) (row_numbers (length table.now.rows))) }
 {
     let mut rows = Vec::new(alloc);
@@ -30,7 +30,12 @@ fn passing_rows(
 }
 
 /// The numbers of the rows that a statement of one place keeps, rising: its kept combinations.
-pub fn scan(alloc: Global, q: &Query, table: &Table, args: &[Value]) -> Result<Vec<u32>, AllocError>
+pub fn scan(
+    alloc: Global,
+    q: &Query,
+    table: &Table,
+    args: &[Value],
+) -> Result<Vec<u32>, OutOfMemory>
     requires { length q.now.places ≡ 1 }
     ensures { IfOk result (λ rows. map (λ row. row ∷ []) rows.items ≡ kept_combinations q.now (table.now.rows ∷ []) args.now) }
 {

@@ -10,8 +10,8 @@ ghost use Rattle.cost_model.specs.Laws.{IsCost, IsVectorOf};
 use cost_polynomials::Poly;
 use plan_costs::poly_of;
 use plan_trees::{Stats, Top};
-use row_values::Query;
-use std::alloc::{AllocError, Global};
+use row_values::{OutOfMemory, Query};
+use std::alloc::Global;
 use std::rc::Rc;
 
 /// A plan, and what it costs as a polynomial in the selectivities.
@@ -23,7 +23,7 @@ pub struct Costed {
 
 impl Costed {
     /// The plan with the polynomial of its cost under these statistics.
-    pub fn of(alloc: Global, q: &Query, stats: &Stats, plan: Rc<Top>) -> Result<Costed, AllocError>
+    pub fn of(alloc: Global, q: &Query, stats: &Stats, plan: Rc<Top>) -> Result<Costed, OutOfMemory>
         requires sound { IsSoundStats q.now stats.now }
         requires valid { IsValidTop q.now stats.now.indexed (top_tree plan.value) }
         ensures plan { IfOk result (λ costed. costed.plan ≡ plan) }

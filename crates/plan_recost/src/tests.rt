@@ -10,9 +10,9 @@ use crate::Costed;
 use cost_model::COST_SCALE;
 use plan_trees::{Access, Indexed, Plan, Stats, Top, Weights, valid};
 use row_values::{
-    ColRef, Column, Edge, Item, Kind, Operand, Place, Pred, Query, Schema, Test, Words,
+    ColRef, Column, Edge, Item, Kind, Operand, OutOfMemory, Place, Pred, Query, Schema, Test, Words,
 };
-use std::alloc::{AllocError, Global};
+use std::alloc::Global;
 use std::rc::Rc;
 use std::test::Fail;
 
@@ -30,7 +30,7 @@ fn place(
     name: &str,
     alias: &str,
     columns: [&str; 2],
-) -> Result<Option<Place>, AllocError> {
+) -> Result<Option<Place>, OutOfMemory> {
     let mut kept = Vec::new(alloc);
     for column in columns {
         kept.push(Column {
@@ -52,7 +52,7 @@ fn at(place: u8, column: u8) -> ColRef {
     ColRef { place, column }
 }
 
-fn orders_above(alloc: Global) -> Result<Option<Query>, AllocError> {
+fn orders_above(alloc: Global) -> Result<Option<Query>, OutOfMemory> {
     let mut places = Vec::new(alloc);
     if let Some(customers) = place(alloc, "customers", "c", ["id", "name"])? {
         places.push(customers)?;
@@ -91,7 +91,7 @@ fn is_above_parameter(pred: &Pred) -> bool
     }
 }
 
-fn shop(alloc: Global, q: &Query) -> Result<Option<Stats>, AllocError>
+fn shop(alloc: Global, q: &Query) -> Result<Option<Stats>, OutOfMemory>
     ensures sound { IfOk result (λ found. IfSome found (λ stats. IsSoundStats q.now stats)) }
     ensures vector { IfOk result (λ found. IfSome found (λ stats.
         (n : ℕ) → 1 ≤ n → n ≤ 1000 → IsSoundVector q.now stats (n ∷ []))) }
@@ -136,7 +136,7 @@ fn cost_with(
     stats: &Stats,
     plan: Plan,
     found: u64,
-) -> Result<Option<u128>, AllocError>
+) -> Result<Option<u128>, OutOfMemory>
     requires sound { IsSoundStats q.now stats.now }
     requires vector { (n : ℕ) → 1 ≤ n → n ≤ 1000 → IsSoundVector q.now stats.now (n ∷ []) }
 {

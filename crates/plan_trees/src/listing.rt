@@ -10,8 +10,8 @@ ghost use Rattle.plan_trees.specs.Trees.{place_entering, place_of};
 use crate::plans::{Access, StepKind};
 use crate::statistics::Indexed;
 use crate::validity::{is_valid_access, is_valid_hash_join, is_valid_step};
-use row_values::Query;
-use std::alloc::{AllocError, Global};
+use row_values::{OutOfMemory, Query};
+use std::alloc::Global;
 
 /// Adds the access, if it is valid.
 fn push_access(
@@ -19,7 +19,7 @@ fn push_access(
     q: &Query,
     ix: &Indexed,
     access: Access,
-) -> Result<(), AllocError>
+) -> Result<(), OutOfMemory>
     ensures { IfOk result (λ _. GainsAll (IsAccessOf q.now ix.now (place_of access)) (λ a. a ≡ access)
         list.old.items list.new.items) }
 {
@@ -36,7 +36,7 @@ fn push_range(
     ix: &Indexed,
     place: u8,
     number: u8,
-) -> Result<(), AllocError>
+) -> Result<(), OutOfMemory>
     ensures { IfOk result (λ _. GainsAll (IsAccessOf q.now ix.now place) (IsRangeBy place number)
         list.old.items list.new.items) }
 {
@@ -50,7 +50,12 @@ fn push_range(
 }
 
 /// Adds the valid ranges over the place.
-fn push_ranges(list: &mut Vec<Access>, q: &Query, ix: &Indexed, place: u8) -> Result<(), AllocError>
+fn push_ranges(
+    list: &mut Vec<Access>,
+    q: &Query,
+    ix: &Indexed,
+    place: u8,
+) -> Result<(), OutOfMemory>
     ensures { IfOk result (λ _. GainsAll (IsAccessOf q.now ix.now place)
         (IsRangeBefore place (length q.now.preds)) list.old.items list.new.items) }
 {
@@ -77,7 +82,7 @@ fn push_fulls(
     ix: &Indexed,
     place: u8,
     columns: u8,
-) -> Result<(), AllocError>
+) -> Result<(), OutOfMemory>
     ensures { IfOk result (λ _. GainsAll (IsAccessOf q.now ix.now place) (IsFullBefore place columns)
         list.old.items list.new.items) }
 {
@@ -93,7 +98,7 @@ pub fn accesses(
     q: &Query,
     ix: &Indexed,
     place: u8,
-) -> Result<Vec<Access>, AllocError>
+) -> Result<Vec<Access>, OutOfMemory>
     ensures { IfOk result (λ list. IsListOf (IsAccessOf q.now ix.now place) list.items) }
 {
     let mut list = Vec::new(alloc);
@@ -110,7 +115,7 @@ fn push_step(
     ix: &Indexed,
     set: u8,
     step: StepKind,
-) -> Result<(), AllocError>
+) -> Result<(), OutOfMemory>
     ensures { IfOk result (λ _. GainsAll (IsStepInto q.now ix.now set (place_entering step)) (λ s. s ≡ step)
         list.old.items list.new.items) }
 {
@@ -128,7 +133,7 @@ fn push_loops(
     set: u8,
     place: u8,
     accesses: &[Access],
-) -> Result<(), AllocError>
+) -> Result<(), OutOfMemory>
     requires { IsListOf (IsAccessOf q.now ix.now place) accesses.now }
     ensures { IfOk result (λ _. GainsAll (IsStepInto q.now ix.now set place)
         (IsLoopAmong accesses.now (length accesses.now)) list.old.items list.new.items) }
@@ -146,7 +151,7 @@ fn push_probes(
     ix: &Indexed,
     set: u8,
     place: u8,
-) -> Result<(), AllocError>
+) -> Result<(), OutOfMemory>
     ensures { IfOk result (λ _. GainsAll (IsStepInto q.now ix.now set place)
         (IsProbeBefore place (length q.now.edges)) list.old.items list.new.items) }
 {
@@ -163,7 +168,7 @@ pub fn steps(
     ix: &Indexed,
     set: u8,
     place: u8,
-) -> Result<Vec<StepKind>, AllocError>
+) -> Result<Vec<StepKind>, OutOfMemory>
     ensures { IfOk result (λ list. IsListOf (IsStepInto q.now ix.now set place) list.items) }
 {
     let mut list = Vec::new(alloc);

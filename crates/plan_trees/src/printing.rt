@@ -7,8 +7,8 @@ ghost use Rattle.plan_trees.specs.Spelling.{IsPlanText, access_text, alias_of, c
 ghost use Rattle.plan_trees.specs.Trees.{top_tree, tree};
 
 use crate::plans::{Access, Plan, StepKind, Top};
-use row_values::{Place, Query, Words, push_name};
-use std::alloc::{AllocError, Global};
+use row_values::{OutOfMemory, Place, Query, Words, push_name};
+use std::alloc::Global;
 
 /// The alias of a place, or nothing for a place that isn't there.
 fn alias(places: &[Place], place: u8) -> &str
@@ -34,14 +34,14 @@ fn column_name(places: &[Place], place: u8, column: u8) -> &str
 }
 
 /// Adds the spelling of a place.
-fn push_place(out: &mut String, places: &[Place], place: u8) -> Result<(), AllocError>
+fn push_place(out: &mut String, places: &[Place], place: u8) -> Result<(), OutOfMemory>
     ensures { OnOk result (string_bytes out.new ≡ string_bytes out.old ++ place_text places.now place) }
 {
     push_name(out, alias(places, place))
 }
 
 /// Adds the spelling of a column.
-fn push_column(out: &mut String, places: &[Place], place: u8, column: u8) -> Result<(), AllocError>
+fn push_column(out: &mut String, places: &[Place], place: u8, column: u8) -> Result<(), OutOfMemory>
     ensures { OnOk result (string_bytes out.new
         ≡ string_bytes out.old ++ column_text places.now place column) }
 {
@@ -49,7 +49,7 @@ fn push_column(out: &mut String, places: &[Place], place: u8, column: u8) -> Res
 }
 
 /// Adds the number of a predicate or an edge, counted from 1.
-fn push_number(out: &mut String, number: u8) -> Result<(), AllocError>
+fn push_number(out: &mut String, number: u8) -> Result<(), OutOfMemory>
     ensures { OnOk result (string_bytes out.new ≡ string_bytes out.old ++ number_text number) }
 {
     let shown = u16::from(number) + 1;
@@ -57,7 +57,7 @@ fn push_number(out: &mut String, number: u8) -> Result<(), AllocError>
 }
 
 /// Adds the spelling of an access.
-fn push_access(out: &mut String, places: &[Place], access: Access) -> Result<(), AllocError>
+fn push_access(out: &mut String, places: &[Place], access: Access) -> Result<(), OutOfMemory>
     ensures { OnOk result (string_bytes out.new ≡ string_bytes out.old ++ access_text places.now access) }
 {
     match access {
@@ -84,7 +84,7 @@ fn push_access(out: &mut String, places: &[Place], access: Access) -> Result<(),
 }
 
 /// Adds what stands behind the outer plan of a step.
-fn push_step(out: &mut String, places: &[Place], step: StepKind) -> Result<(), AllocError>
+fn push_step(out: &mut String, places: &[Place], step: StepKind) -> Result<(), OutOfMemory>
     ensures { OnOk result (string_bytes out.new ≡ string_bytes out.old ++ step_text places.now step) }
 {
     out.push_str(",")?;
@@ -100,7 +100,7 @@ fn push_step(out: &mut String, places: &[Place], step: StepKind) -> Result<(), A
 }
 
 /// Adds the spelling of a plan.
-fn push_plan(out: &mut String, places: &[Place], p: &Plan) -> Result<(), AllocError>
+fn push_plan(out: &mut String, places: &[Place], p: &Plan) -> Result<(), OutOfMemory>
     ensures { OnOk result (string_bytes out.new
         ≡ string_bytes out.old ++ plan_text places.now (tree p.now)) }
 {
@@ -134,7 +134,7 @@ fn push_plan(out: &mut String, places: &[Place], p: &Plan) -> Result<(), AllocEr
 }
 
 /// Adds a plan under the name of its top.
-fn push_under(out: &mut String, places: &[Place], name: &str, p: &Plan) -> Result<(), AllocError>
+fn push_under(out: &mut String, places: &[Place], name: &str, p: &Plan) -> Result<(), OutOfMemory>
     ensures { OnOk result (string_bytes out.new
         ≡ string_bytes out.old ++ (name.now ++ plan_text places.now (tree p.now) ++ codes ")")) }
 {
@@ -144,7 +144,7 @@ fn push_under(out: &mut String, places: &[Place], name: &str, p: &Plan) -> Resul
 }
 
 /// Adds the spelling of a top.
-fn push_top(out: &mut String, places: &[Place], p: &Top) -> Result<(), AllocError>
+fn push_top(out: &mut String, places: &[Place], p: &Top) -> Result<(), OutOfMemory>
     ensures { OnOk result (string_bytes out.new
         ≡ string_bytes out.old ++ top_text places.now (top_tree p.now)) }
 {
@@ -156,7 +156,7 @@ fn push_top(out: &mut String, places: &[Place], p: &Top) -> Result<(), AllocErro
 }
 
 /// The spelling of a plan. A valid plan's spelling is one that `read_plan` reads as that plan.
-pub fn print_plan(alloc: Global, q: &Query, p: &Top) -> Result<Words, AllocError>
+pub fn print_plan(alloc: Global, q: &Query, p: &Top) -> Result<Words, OutOfMemory>
     ensures value { IfOk result (λ words. words ≡ top_text q.now.places (top_tree p.now)) }
     ensures read { (indexed : List ℕ) → IsValidTop q.now indexed (top_tree p.now)
         → IfOk result (λ words. IsPlanText q.now words (top_tree p.now)) }

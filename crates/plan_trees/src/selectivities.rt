@@ -3,8 +3,7 @@
 //! The numbers are counts of at least 1, not fractions. That a vector fits a statement is `IsSoundVector`.
 ghost use Rattle.std.specs.Prelude.{◌≡◌, ◌≤◌, ◌↔◌, IfSome, IsSome, length};
 
-use row_values::SELECTIVITY_LIMIT;
-use std::alloc::AllocError;
+use row_values::{OutOfMemory, SELECTIVITY_LIMIT};
 use std::marker::Model;
 
 /// At most eight counts, held in place; contracts see the list.
@@ -35,7 +34,7 @@ impl Clone for Vector {
 
     ghost is_clone = { λ original copied. copied ≡ original };
 
-    fn clone(&self) -> Result<Vector, AllocError> {
+    fn clone(&self) -> Result<Vector, OutOfMemory> {
         Ok(*self)
     }
 }

@@ -7,8 +7,8 @@ ghost use Rattle.plan_trees.specs.Indexes.{has_index};
 ghost use Rattle.plan_trees.specs.Statistics.{IsSoundStats, by_place, column_count, fan_at, statistics_of};
 
 use crate::place_sets::has_bit;
-use row_values::{PLACE_LIMIT, Place, Query};
-use std::alloc::{AllocError, Global};
+use row_values::{OutOfMemory, PLACE_LIMIT, Place, Query};
+use std::alloc::Global;
 use std::marker::Model;
 
 /// Which columns of which places have an index: at most five masks held in place, one for each place, whose bit
@@ -40,7 +40,7 @@ impl Clone for Indexed {
 
     ghost is_clone = { λ original copied. copied ≡ original };
 
-    fn clone(&self) -> Result<Indexed, AllocError> {
+    fn clone(&self) -> Result<Indexed, OutOfMemory> {
         Ok(*self)
     }
 }
@@ -118,7 +118,7 @@ impl Model for Stats {
 }
 
 /// A list of its own.
-fn kept(alloc: Global, numbers: &[u64]) -> Result<Vec<u64>, AllocError>
+fn kept(alloc: Global, numbers: &[u64]) -> Result<Vec<u64>, OutOfMemory>
     ensures { IfOk result (λ list. list.items ≡ numbers.now) }
 {
     numbers.to_vec(alloc)
@@ -129,7 +129,7 @@ fn kept_by_place(
     alloc: Global,
     places: &[Place],
     numbers: &[u64],
-) -> Result<Vec<Vec<u64>>, AllocError>
+) -> Result<Vec<Vec<u64>>, OutOfMemory>
     requires { length numbers.now ≡ column_count places.now }
     ensures { IfOk result (λ lists. map (λ list. list.items) lists.items
         ≡ by_place places.now numbers.now) }
@@ -157,7 +157,7 @@ impl Stats {
         fans: &[u64],
         indexed: Indexed,
         weights: Weights,
-    ) -> Result<Stats, AllocError>
+    ) -> Result<Stats, OutOfMemory>
         requires fans { length fans.now ≡ column_count q.now.places }
         requires sound { IsSoundStats q.now
             (statistics_of q.now.places rows.now fixed.now matching.now edges.now fans.now

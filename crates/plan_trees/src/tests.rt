@@ -2,21 +2,21 @@
 //! a.id = "order id".id AND "order id".id = c.id ORDER BY a.day`, where t has the columns id, "select" and day.
 use crate::{Access, Indexed, Plan, PlanFault, Top, print_plan, read_plan, same, valid};
 use row_values::{
-    ColRef, Column, Edge, Item, Kind, Operand, OrderKey, Place, Pred, Query, Schema, Test, Value,
-    Words,
+    ColRef, Column, Edge, Item, Kind, Operand, OrderKey, OutOfMemory, Place, Pred, Query, Schema,
+    Test, Value, Words,
 };
-use std::alloc::{AllocError, Global};
+use std::alloc::Global;
 use std::rc::Rc;
 use std::test::Fail;
 
-fn column(alloc: Global, name: &str, kind: Kind) -> Result<Column, AllocError> {
+fn column(alloc: Global, name: &str, kind: Kind) -> Result<Column, OutOfMemory> {
     Ok(Column {
         name: Words::of(alloc, name)?,
         kind,
     })
 }
 
-fn schema(alloc: Global) -> Result<Option<Schema>, AllocError> {
+fn schema(alloc: Global) -> Result<Option<Schema>, OutOfMemory> {
     let mut columns = Vec::new(alloc);
     columns.push(column(alloc, "id", Kind::Int)?)?;
     columns.push(column(alloc, "select", Kind::Text)?)?;
@@ -28,7 +28,7 @@ fn at(place: u8, column: u8) -> ColRef {
     ColRef { place, column }
 }
 
-fn statement(alloc: Global) -> Result<Option<Query>, AllocError> {
+fn statement(alloc: Global) -> Result<Option<Query>, OutOfMemory> {
     let mut places = Vec::new(alloc);
     for alias in ["a", "order id", "c"] {
         if let Some(schema) = schema(alloc)? {
@@ -135,7 +135,7 @@ fn other_texts_are_no_plans(rt: HostRuntime) -> Result<(), Fail> {
 }
 
 /// The base under so many sorts.
-fn sorts(alloc: Global, count: usize) -> Result<String, AllocError> {
+fn sorts(alloc: Global, count: usize) -> Result<String, OutOfMemory> {
     let mut text = String::from_str(alloc, "rows(")?;
     for _ in 0..count {
         text.push_str("sort(")?;

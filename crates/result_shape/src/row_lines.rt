@@ -9,11 +9,11 @@ ghost use Rattle.result_shape.specs.Items.{is_first_column};
 use crate::spelling::push_cell;
 use csv_tables::Table;
 use row_tests::cell_in;
-use row_values::{Item, Query, Words};
-use std::alloc::{AllocError, Global};
+use row_values::{Item, OutOfMemory, Query, Words};
+use std::alloc::Global;
 
 /// Adds an item of a row.
-fn push_item(text: &mut String, table: &Table, row: u32, item: &Item) -> Result<(), AllocError>
+fn push_item(text: &mut String, table: &Table, row: u32, item: &Item) -> Result<(), OutOfMemory>
     requires { IsTrue (is_first_column item.now) }
     ensures { OnOk result (string_bytes text.new ≡ string_bytes text.old ++ item_text (shown_item (table.now.rows ∷ []) (row ∷ []) ((row ∷ []) ∷ []) item.now)) }
 {
@@ -29,7 +29,7 @@ fn push_further(
     table: &Table,
     row: u32,
     items: &[Item],
-) -> Result<(), AllocError>
+) -> Result<(), OutOfMemory>
     requires { All (λ item. IsTrue (is_first_column item)) items.now }
     ensures { OnOk result (string_bytes text.new ≡ string_bytes text.old ++ further_items (shown_row (table.now.rows ∷ []) items.now ((row ∷ []) ∷ []) (row ∷ []))) }
 {
@@ -41,7 +41,7 @@ fn push_further(
 }
 
 /// Adds the items joined by commas.
-fn push_items(text: &mut String, table: &Table, row: u32, items: &[Item]) -> Result<(), AllocError>
+fn push_items(text: &mut String, table: &Table, row: u32, items: &[Item]) -> Result<(), OutOfMemory>
     requires { All (λ item. IsTrue (is_first_column item)) items.now }
     ensures { OnOk result (string_bytes text.new ≡ string_bytes text.old ++ items_text (shown_row (table.now.rows ∷ []) items.now ((row ∷ []) ∷ []) (row ∷ []))) }
 {
@@ -55,7 +55,7 @@ fn push_items(text: &mut String, table: &Table, row: u32, items: &[Item]) -> Res
 }
 
 /// The line of the result row that a row of the table gives, without its end.
-pub fn row_text(alloc: Global, q: &Query, table: &Table, row: u32) -> Result<Words, AllocError>
+pub fn row_text(alloc: Global, q: &Query, table: &Table, row: u32) -> Result<Words, OutOfMemory>
     requires place { length q.now.places ≡ 1 }
     requires plain { q.now.groups ≡ [] }
     ensures { IfOk result (λ text. text ≡ row_line (shown_row (table.now.rows ∷ []) q.now.items ((row ∷ []) ∷ []) (row ∷ []))) }

@@ -9,8 +9,7 @@ ghost use Rattle.statement_meaning.specs.Meaning.{shown_cell};
 ghost use Rattle.statement_meaning.specs.Spelling.{escaped, quoted, item_text};
 ghost use Rattle.result_shape.specs.Items.{needs_escape};
 
-use row_values::Value;
-use std::alloc::AllocError;
+use row_values::{OutOfMemory, Value};
 
 /// Whether a byte of a text stands for itself only behind a `\`.
 fn is_escaped(byte: u8) -> bool
@@ -32,7 +31,7 @@ fn hex_digit(digit: u8) -> char
 }
 
 /// Adds a byte as it is escaped.
-fn push_escaped(text: &mut String, byte: u8) -> Result<(), AllocError>
+fn push_escaped(text: &mut String, byte: u8) -> Result<(), OutOfMemory>
     requires { IsTrue (needs_escape byte) }
     ensures { OnOk result (string_bytes text.new ≡ string_bytes text.old ++ escaped byte) }
 {
@@ -49,7 +48,7 @@ fn push_escaped(text: &mut String, byte: u8) -> Result<(), AllocError>
 }
 
 /// Adds a text without its quotes.
-fn push_escapes(text: &mut String, words: &str) -> Result<(), AllocError>
+fn push_escapes(text: &mut String, words: &str) -> Result<(), OutOfMemory>
     ensures { OnOk result (string_bytes text.new ≡ string_bytes text.old ++ flat_map escaped words.now) }
 {
     let mut start = 0;
@@ -65,7 +64,7 @@ fn push_escapes(text: &mut String, words: &str) -> Result<(), AllocError>
 }
 
 /// Adds a text between double quotes.
-fn push_quoted(text: &mut String, words: &str) -> Result<(), AllocError>
+fn push_quoted(text: &mut String, words: &str) -> Result<(), OutOfMemory>
     ensures { OnOk result (string_bytes text.new ≡ string_bytes text.old ++ quoted words.now) }
 {
     text.push('"')?;
@@ -75,7 +74,7 @@ fn push_quoted(text: &mut String, words: &str) -> Result<(), AllocError>
 }
 
 /// Adds a whole number in decimal.
-fn push_number(text: &mut String, number: i64) -> Result<(), AllocError>
+fn push_number(text: &mut String, number: i64) -> Result<(), OutOfMemory>
     ensures { OnOk result (string_bytes text.new ≡ string_bytes text.old ++ signed_decimal number) }
 {
     write!(text, "{number}")?;
@@ -83,7 +82,7 @@ fn push_number(text: &mut String, number: i64) -> Result<(), AllocError>
 }
 
 /// Adds a cell as a row line shows it; one that isn't there shows as the empty text.
-pub fn push_cell(text: &mut String, cell: Option<&Value>) -> Result<(), AllocError>
+pub fn push_cell(text: &mut String, cell: Option<&Value>) -> Result<(), OutOfMemory>
     ensures { OnOk result (string_bytes text.new ≡ string_bytes text.old ++ item_text (shown_cell (option_map (λ value. value.now) cell.entry))) }
 {
     match cell {

@@ -9,8 +9,8 @@ ghost use Rattle.row_tests.specs.Ready.{ready_meets, ready_holds, all_hold};
 use crate::cells::cell_in;
 use crate::tests_of_values::{NumberTest, meets_test, number_test};
 use csv_tables::Table;
-use row_values::{Pred, Test, Value};
-use std::alloc::{AllocError, Global};
+use row_values::{OutOfMemory, Pred, Test, Value};
+use std::alloc::Global;
 
 /// A test that is ready: numbers against numbers, or any other as it was written.
 #[derive(Clone, Copy, Debug)]
@@ -60,7 +60,7 @@ pub fn ready_preds<'a>(
     preds: &'a [Pred],
     args: &[Value],
     place: u8,
-) -> Result<Vec<Ready<'a>>, AllocError>
+) -> Result<Vec<Ready<'a>>, OutOfMemory>
     ensures { IfOk result (λ ready. (row : List AnyValue) → all_hold args.now ready.items row ≡ row_passes args.now preds.now place row) }
 {
     let mut ready = Vec::new(alloc);

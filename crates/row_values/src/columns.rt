@@ -4,9 +4,10 @@
 ghost use Rattle.std.specs.Prelude.{◌≡◌, ◌≤◌, ◌↔◌, IfOk, IfSome, IsSome, IsTrue};
 ghost use Rattle.row_values.specs.Columns.{IsSchema, is_name_in, are_names};
 
+use crate::OutOfMemory;
 use crate::text::Words;
 use crate::values::Kind;
-use std::alloc::{AllocError, Global};
+use std::alloc::Global;
 use std::marker::Model;
 
 /// The most columns of a table: a row stays small, and a set of columns fits 64 bits.
@@ -90,7 +91,7 @@ impl Schema {
     }
 
     /// The same schema a second time.
-    pub fn copy(&self, alloc: Global) -> Result<Schema, AllocError>
+    pub fn copy(&self, alloc: Global) -> Result<Schema, OutOfMemory>
         ensures { IfOk result (λ schema. schema ≡ self.now) }
     {
         let mut columns = Vec::new(alloc);

@@ -31,3 +31,6 @@ pub use statement::{
 };
 pub use text::Words;
 pub use values::{Args, Kind, Value, compare};
+
+/// Want of memory: the one name for it in signatures.
+pub type OutOfMemory = std::alloc::AllocError;

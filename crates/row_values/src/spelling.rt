@@ -5,12 +5,13 @@ ghost use Rattle.std.specs.Prelude.{◌≡◌, ◌++◌, IfOk, OnOk, string_byte
 ghost use Rattle.std.specs.List.{flat_map};
 ghost use Rattle.row_values.specs.Names as spelled;
 
+use crate::OutOfMemory;
 use crate::plain::is_plain_name;
 use crate::text::Words;
-use std::alloc::{AllocError, Global};
+use std::alloc::Global;
 
 /// Adds the name in double quotes, each double quote in it as two.
-fn push_quoted(out: &mut String, name: &str) -> Result<(), AllocError>
+fn push_quoted(out: &mut String, name: &str) -> Result<(), OutOfMemory>
     ensures { OnOk result (string_bytes out.new ≡ string_bytes out.old ++ spelled.quoted_name name.now) }
 {
     out.push('"')?;
@@ -20,7 +21,7 @@ fn push_quoted(out: &mut String, name: &str) -> Result<(), AllocError>
 }
 
 /// Adds the name, each double quote in it as two.
-fn push_doubled(out: &mut String, name: &str) -> Result<(), AllocError>
+fn push_doubled(out: &mut String, name: &str) -> Result<(), OutOfMemory>
     ensures { OnOk result (string_bytes out.new
         ≡ string_bytes out.old ++ flat_map spelled.doubled name.now) }
 {
@@ -31,7 +32,7 @@ fn push_doubled(out: &mut String, name: &str) -> Result<(), AllocError>
 }
 
 /// Adds one character, a double quote as two.
-fn push_letter(out: &mut String, letter: char) -> Result<(), AllocError>
+fn push_letter(out: &mut String, letter: char) -> Result<(), OutOfMemory>
     ensures { OnOk result (string_bytes out.new ≡ string_bytes out.old ++ spelled.letter_bytes letter) }
 {
     if letter == '"' {
@@ -42,7 +43,7 @@ fn push_letter(out: &mut String, letter: char) -> Result<(), AllocError>
 }
 
 /// Adds the canonical spelling of a name.
-pub fn push_name(out: &mut String, name: &str) -> Result<(), AllocError>
+pub fn push_name(out: &mut String, name: &str) -> Result<(), OutOfMemory>
     ensures { OnOk result (string_bytes out.new ≡ string_bytes out.old ++ spelled.canonical_name name.now) }
 {
     if is_plain_name(name) {
@@ -55,7 +56,7 @@ pub fn push_name(out: &mut String, name: &str) -> Result<(), AllocError>
 }
 
 /// The canonical spelling of a name.
-pub fn canonical_name(alloc: Global, name: &str) -> Result<Words, AllocError>
+pub fn canonical_name(alloc: Global, name: &str) -> Result<Words, OutOfMemory>
     ensures { IfOk result (λ words. words ≡ spelled.canonical_name name.now) }
 {
     let mut out = String::new(alloc);

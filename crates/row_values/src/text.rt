@@ -4,7 +4,8 @@
 //! Want of memory is the one answer of `of` and `copy` other than the text.
 ghost use Rattle.std.specs.Prelude.{◌≡◌, [], IfOk, string_bytes};
 
-use std::alloc::{AllocError, Global};
+use crate::OutOfMemory;
+use std::alloc::Global;
 use std::cmp::Ordering;
 use std::hash::{Hash, Hasher};
 use std::marker::Model;
@@ -34,7 +35,7 @@ impl Words {
     }
 
     /// This text as a value of its own.
-    pub fn of(alloc: Global, text: &str) -> Result<Words, AllocError>
+    pub fn of(alloc: Global, text: &str) -> Result<Words, OutOfMemory>
         ensures { IfOk result (λ words. words ≡ text.now) }
     {
         Ok(Words {
@@ -57,7 +58,7 @@ impl Words {
     }
 
     /// The same text a second time.
-    pub fn copy(&self, alloc: Global) -> Result<Words, AllocError>
+    pub fn copy(&self, alloc: Global) -> Result<Words, OutOfMemory>
         ensures { IfOk result (λ words. words ≡ self.now) }
     {
         Words::of(alloc, self.as_str())

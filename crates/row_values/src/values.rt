@@ -5,8 +5,9 @@
 ghost use Rattle.std.specs.Prelude.{◌≡◌, IfOk};
 ghost use Rattle.row_values.specs.Values.{value_cmp, kind_of};
 
+use crate::OutOfMemory;
 use crate::text::Words;
-use std::alloc::{AllocError, Global};
+use std::alloc::Global;
 use std::cmp::Ordering;
 use std::marker::Model;
 
@@ -36,7 +37,7 @@ impl Value {
     }
 
     /// The same value a second time.
-    pub fn copy(&self, alloc: Global) -> Result<Value, AllocError>
+    pub fn copy(&self, alloc: Global) -> Result<Value, OutOfMemory>
         ensures { IfOk result (λ value. value ≡ self.now) }
     {
         match self {

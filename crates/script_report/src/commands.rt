@@ -7,9 +7,9 @@ ghost use Rattle.std.specs.Prelude.{◌≡◌, ◌≤◌, IfOk, IfSome};
 ghost use Rattle.script_report.specs.Commands as reading;
 
 use crate::parts::{after_part, first_part, name_part, skip_blanks, value_part};
-use row_values::{Args, Words, whole_number};
+use row_values::{Args, OutOfMemory, Words, whole_number};
 use sql_parser::{ParseFault, Select, parse};
-use std::alloc::{AllocError, Global};
+use std::alloc::Global;
 
 /// The most rows of one `fetch`.
 pub const FETCH_LIMIT: u32 = 1000000;
@@ -86,7 +86,7 @@ fn skip_end_blanks(text: &str) -> &str
 }
 
 /// The numbers and texts that the parts are; none where a part is neither.
-fn args_in(alloc: Global, parts: &str) -> Result<Option<Args>, AllocError>
+fn args_in(alloc: Global, parts: &str) -> Result<Option<Args>, OutOfMemory>
     ensures { IfOk result (λ args. args ≡ reading.args_in parts.now) }
 {
     let mut values = Vec::new(alloc);
@@ -127,7 +127,7 @@ fn count_in(most: u64, text: &str) -> Option<u64>
 }
 
 /// A table's name, and the name of its file, which is the rest of the line.
-fn load_in(alloc: Global, parts: &str) -> Result<Option<Command>, AllocError>
+fn load_in(alloc: Global, parts: &str) -> Result<Option<Command>, OutOfMemory>
     ensures { IfOk result (λ command. command ≡ reading.load_in parts.now) }
 {
     let Some((table, file)) = name_part(alloc, parts)? else {
@@ -143,7 +143,7 @@ fn load_in(alloc: Global, parts: &str) -> Result<Option<Command>, AllocError>
 }
 
 /// The names of a table and of its column.
-fn index_in(alloc: Global, parts: &str) -> Result<Option<Command>, AllocError>
+fn index_in(alloc: Global, parts: &str) -> Result<Option<Command>, OutOfMemory>
     ensures { IfOk result (λ command. command ≡ reading.index_in parts.now) }
 {
     let Some((table, rest)) = name_part(alloc, parts)? else {
@@ -159,21 +159,21 @@ fn index_in(alloc: Global, parts: &str) -> Result<Option<Command>, AllocError>
 }
 
 /// A name, and a statement to the end of the line.
-fn prepare_in(alloc: Global, parts: &str) -> Result<Option<Command>, AllocError>
+fn prepare_in(alloc: Global, parts: &str) -> Result<Option<Command>, OutOfMemory>
     ensures { IfOk result (λ command. command ≡ reading.prepare_in parts.now) }
 {
     let Some((name, statement)) = name_part(alloc, parts)? else {
         return Ok(None);
     };
     match parse(alloc, statement) {
-        Err(ParseFault::Memory) => Err(AllocError),
+        Err(ParseFault::Memory) => Err(OutOfMemory),
         Err(ParseFault::Syntax) => Ok(None),
         Ok(select) => Ok(Some(Command::Prepare { name, select })),
     }
 }
 
 /// The name of a statement, and its arguments.
-fn run_in(alloc: Global, parts: &str) -> Result<Option<Command>, AllocError>
+fn run_in(alloc: Global, parts: &str) -> Result<Option<Command>, OutOfMemory>
     ensures { IfOk result (λ command. command ≡ reading.run_in parts.now) }
 {
     let Some((name, rest)) = name_part(alloc, parts)? else {
@@ -186,7 +186,7 @@ fn run_in(alloc: Global, parts: &str) -> Result<Option<Command>, AllocError>
 }
 
 /// The names of a cursor and of a statement, and its arguments.
-fn cursor_in(alloc: Global, parts: &str) -> Result<Option<Command>, AllocError>
+fn cursor_in(alloc: Global, parts: &str) -> Result<Option<Command>, OutOfMemory>
     ensures { IfOk result (λ command. command ≡ reading.cursor_in parts.now) }
 {
     let Some((cursor, rest)) = name_part(alloc, parts)? else {
@@ -202,7 +202,7 @@ fn cursor_in(alloc: Global, parts: &str) -> Result<Option<Command>, AllocError>
 }
 
 /// The name of a cursor, and how many rows.
-fn fetch_in(alloc: Global, parts: &str) -> Result<Option<Command>, AllocError>
+fn fetch_in(alloc: Global, parts: &str) -> Result<Option<Command>, OutOfMemory>
     ensures { IfOk result (λ command. command ≡ reading.fetch_in parts.now) }
 {
     let Some((cursor, rest)) = name_part(alloc, parts)? else {
@@ -218,7 +218,7 @@ fn fetch_in(alloc: Global, parts: &str) -> Result<Option<Command>, AllocError>
 }
 
 /// The name of a cursor.
-fn close_in(alloc: Global, parts: &str) -> Result<Option<Command>, AllocError>
+fn close_in(alloc: Global, parts: &str) -> Result<Option<Command>, OutOfMemory>
     ensures { IfOk result (λ command. command ≡ reading.close_in parts.now) }
 {
     let Some((cursor, end)) = name_part(alloc, parts)? else {
@@ -231,7 +231,7 @@ fn close_in(alloc: Global, parts: &str) -> Result<Option<Command>, AllocError>
 }
 
 /// The name of a statement, and the number of a plan.
-fn evict_in(alloc: Global, parts: &str) -> Result<Option<Command>, AllocError>
+fn evict_in(alloc: Global, parts: &str) -> Result<Option<Command>, OutOfMemory>
     ensures { IfOk result (λ command. command ≡ reading.evict_in parts.now) }
 {
     let Some((name, rest)) = name_part(alloc, parts)? else {
@@ -244,7 +244,7 @@ fn evict_in(alloc: Global, parts: &str) -> Result<Option<Command>, AllocError>
 }
 
 /// The name of a statement.
-fn show_in(alloc: Global, parts: &str) -> Result<Option<Command>, AllocError>
+fn show_in(alloc: Global, parts: &str) -> Result<Option<Command>, OutOfMemory>
     ensures { IfOk result (λ command. command ≡ reading.show_in parts.now) }
 {
     let Some((name, end)) = name_part(alloc, parts)? else {
@@ -257,7 +257,7 @@ fn show_in(alloc: Global, parts: &str) -> Result<Option<Command>, AllocError>
 }
 
 /// The command that begins with this word; none where the word is no command word, or the parts aren't its own.
-fn command_in(alloc: Global, word: &str, parts: &str) -> Result<Option<Command>, AllocError>
+fn command_in(alloc: Global, word: &str, parts: &str) -> Result<Option<Command>, OutOfMemory>
     ensures { IfOk result (λ command. reading.command_in word.now parts.now ≡ command) }
 {
     match word {

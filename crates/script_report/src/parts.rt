@@ -5,9 +5,9 @@
 ghost use Rattle.std.specs.Prelude.{◌≡◌, option_map, IfOk};
 ghost use Rattle.script_report.specs.Parts as parts;
 
-use row_values::{Value, Words};
+use row_values::{OutOfMemory, Value, Words};
 use sql_parser::{Token, take_token};
-use std::alloc::{AllocError, Global};
+use std::alloc::Global;
 
 /// Whether the byte separates parts: a space or a tab.
 fn is_blank(byte: u8) -> bool
@@ -65,7 +65,7 @@ fn next_part(text: &str) -> Option<&str>
 
 /// The name at the front, plain or quoted, and the parts behind it; none where no name stands there.
 #[tactic(auto, unfolding(crate::specs::Parts::name_part))]
-pub fn name_part(alloc: Global, text: &str) -> Result<Option<(Words, &str)>, AllocError>
+pub fn name_part(alloc: Global, text: &str) -> Result<Option<(Words, &str)>, OutOfMemory>
     ensures { IfOk result (λ found. option_map (λ f. (f.0, f.1.now)) found ≡ parts.name_part text.now) }
 {
     let Some((token, rest)) = take_token(alloc, text)? else {
@@ -82,7 +82,7 @@ pub fn name_part(alloc: Global, text: &str) -> Result<Option<(Words, &str)>, All
 
 /// The number or text at the front, and the parts behind it; none where neither stands there.
 #[tactic(auto, unfolding(crate::specs::Parts::value_part))]
-pub fn value_part(alloc: Global, text: &str) -> Result<Option<(Value, &str)>, AllocError>
+pub fn value_part(alloc: Global, text: &str) -> Result<Option<(Value, &str)>, OutOfMemory>
     ensures { IfOk result (λ found. option_map (λ f. (f.0, f.1.now)) found ≡ parts.value_part text.now) }
 {
     let Some((token, rest)) = take_token(alloc, text)? else {

@@ -8,8 +8,8 @@ ghost use Rattle.row_values.specs.Refusals.{refusal_words as known_words};
 ghost use Rattle.script_report.specs.Replies as report;
 
 use plan_trees::Vector;
-use row_values::{Refusal, Words, push_name, refusal_words};
-use std::alloc::{AllocError, Global};
+use row_values::{OutOfMemory, Refusal, Words, push_name, refusal_words};
+use std::alloc::Global;
 use std::marker::Model;
 
 /// The row lines of a result, each without its end; contracts see a list of texts.
@@ -44,7 +44,7 @@ impl Lines {
     }
 
     /// Adds a line at the end. After want of memory the lines are as before.
-    pub fn push(&mut self, item: Words) -> Result<(), AllocError>
+    pub fn push(&mut self, item: Words) -> Result<(), OutOfMemory>
         ensures ok { OnOk result (self.new ≡ self.old ++ item ∷ []) }
         ensures err { OnErr result (self.new ≡ self.old) }
     {
@@ -88,7 +88,7 @@ pub enum Reply {
 }
 
 /// Adds the numbers, each behind a space.
-fn push_numbers(text: &mut String, numbers: &[u64]) -> Result<(), AllocError>
+fn push_numbers(text: &mut String, numbers: &[u64]) -> Result<(), OutOfMemory>
     ensures { OnOk result (string_bytes text.new ≡ string_bytes text.old ++ report.numbers_text numbers.now) }
 {
     for number in numbers {
@@ -98,7 +98,7 @@ fn push_numbers(text: &mut String, numbers: &[u64]) -> Result<(), AllocError>
 }
 
 /// Adds the number of an execution, and the lines of its plan and its cost.
-fn push_plan(text: &mut String, execution: &Execution) -> Result<(), AllocError>
+fn push_plan(text: &mut String, execution: &Execution) -> Result<(), OutOfMemory>
     ensures { OnOk result (string_bytes text.new ≡ string_bytes text.old ++ report.plan_lines execution.now) }
 {
     let number = execution.number;
@@ -109,7 +109,7 @@ fn push_plan(text: &mut String, execution: &Execution) -> Result<(), AllocError>
 }
 
 /// The lines of an execution, up to its rows.
-fn execution_text(alloc: Global, line: u64, execution: &Execution) -> Result<String, AllocError>
+fn execution_text(alloc: Global, line: u64, execution: &Execution) -> Result<String, OutOfMemory>
     ensures { IfOk result (λ text. string_bytes text ≡ report.execution_text line execution.now) }
 {
     let mut text = format!(in alloc; "{line} ran ")?;
@@ -121,7 +121,7 @@ fn execution_text(alloc: Global, line: u64, execution: &Execution) -> Result<Str
 }
 
 /// Adds the row lines.
-fn push_lines(text: &mut String, rows: &[Words]) -> Result<(), AllocError>
+fn push_lines(text: &mut String, rows: &[Words]) -> Result<(), OutOfMemory>
     ensures { OnOk result (string_bytes text.new ≡ string_bytes text.old ++ report.lines_text rows.now) }
 {
     for row in rows {
@@ -132,7 +132,7 @@ fn push_lines(text: &mut String, rows: &[Words]) -> Result<(), AllocError>
 }
 
 /// The last line of a result of this many rows.
-fn end_text(alloc: Global, count: usize) -> Result<String, AllocError>
+fn end_text(alloc: Global, count: usize) -> Result<String, OutOfMemory>
     ensures { IfOk result (λ text. string_bytes text ≡ report.end_text count) }
 {
     let text = format!(in alloc; "end {count}\n")?;
@@ -145,7 +145,7 @@ fn ran_text(
     line: u64,
     execution: &Execution,
     rows: &[Words],
-) -> Result<String, AllocError>
+) -> Result<String, OutOfMemory>
     ensures { IfOk result (λ text. string_bytes text ≡ report.ran_text line execution.now rows.now) }
 {
     let mut text = execution_text(alloc, line, execution)?;
@@ -161,7 +161,7 @@ fn loaded_text(
     table: &str,
     rows: u32,
     columns: u32,
-) -> Result<String, AllocError>
+) -> Result<String, OutOfMemory>
     ensures { IfOk result (λ text. string_bytes text ≡ report.loaded_text line table.now rows columns) }
 {
     let mut text = format!(in alloc; "{line} loaded ")?;
@@ -178,7 +178,7 @@ fn prepared_text(
     tables: u32,
     predicates: u32,
     parameters: u32,
-) -> Result<String, AllocError>
+) -> Result<String, OutOfMemory>
     ensures { IfOk result (λ text. string_bytes text ≡ report.prepared_text line name.now tables predicates parameters) }
 {
     let mut text = format!(in alloc; "{line} prepared ")?;
@@ -201,7 +201,7 @@ fn words_of(code: u8) -> &'static str
 }
 
 /// The line of a refusal.
-fn refused_text(alloc: Global, line: u64, refusal: &Refusal) -> Result<String, AllocError>
+fn refused_text(alloc: Global, line: u64, refusal: &Refusal) -> Result<String, OutOfMemory>
     ensures { IfOk result (λ text. string_bytes text ≡ report.refused_text line refusal.now) }
 {
     let code = refusal.code;
@@ -216,7 +216,7 @@ fn refused_text(alloc: Global, line: u64, refusal: &Refusal) -> Result<String, A
 }
 
 /// The text of a reply to the line of this number, its line ends included.
-pub fn reply_text(alloc: Global, line: u64, r: &Reply) -> Result<Words, AllocError>
+pub fn reply_text(alloc: Global, line: u64, r: &Reply) -> Result<Words, OutOfMemory>
     ensures { IfOk result (λ text. text ≡ report.reply_text line r.now) }
 {
     let text = match r {

@@ -1,13 +1,13 @@
 //! Lines against the commands that they give, and replies against their lines of the report.
 use crate::{Command, Execution, LineFault, Lines, Reply, read_line, reply_text};
 use plan_trees::Vector;
-use row_values::{Refusal, SYNTAX, UNKNOWN_TABLE, Value, Words};
+use row_values::{OutOfMemory, Refusal, SYNTAX, UNKNOWN_TABLE, Value, Words};
 use sql_parser::print;
-use std::alloc::{AllocError, Global};
+use std::alloc::Global;
 use std::test::Fail;
 
 /// Adds the arguments, each behind a space, texts in brackets.
-fn push_args(out: &mut String, args: &[Value]) -> Result<(), AllocError> {
+fn push_args(out: &mut String, args: &[Value]) -> Result<(), OutOfMemory> {
     for arg in args {
         match arg {
             Value::Int(number) => write!(out, " {number}")?,
@@ -18,7 +18,7 @@ fn push_args(out: &mut String, args: &[Value]) -> Result<(), AllocError> {
 }
 
 /// A command as a text, names and files in brackets.
-fn spelled(alloc: Global, command: &Command) -> Result<String, AllocError> {
+fn spelled(alloc: Global, command: &Command) -> Result<String, OutOfMemory> {
     match command {
         Command::Load { table, file } => {
             format!(in alloc; "load [{}] [{}]", table.as_str(), file.as_str())
@@ -50,12 +50,12 @@ fn spelled(alloc: Global, command: &Command) -> Result<String, AllocError> {
 }
 
 /// What a line says, as a text.
-fn said(alloc: Global, line: &str) -> Result<String, AllocError> {
+fn said(alloc: Global, line: &str) -> Result<String, OutOfMemory> {
     match read_line(alloc, line) {
         Ok(Some(command)) => spelled(alloc, &command),
         Ok(None) => String::from_str(alloc, "nothing"),
         Err(LineFault::Syntax) => String::from_str(alloc, "syntax"),
-        Err(LineFault::Memory) => Err(AllocError),
+        Err(LineFault::Memory) => Err(OutOfMemory),
     }
 }
 
@@ -179,7 +179,7 @@ fn a_long_line_is_read_in_one_pass(rt: HostRuntime) -> Result<(), Fail> {
     Ok(())
 }
 
-fn words(alloc: Global, text: &str) -> Result<Words, AllocError> {
+fn words(alloc: Global, text: &str) -> Result<Words, OutOfMemory> {
     Words::of(alloc, text)
 }
 
@@ -194,7 +194,7 @@ fn execution(alloc: Global, at: &[u64]) -> Result<Execution, Fail> {
     })
 }
 
-fn lines(alloc: Global, texts: &[&str]) -> Result<Lines, AllocError> {
+fn lines(alloc: Global, texts: &[&str]) -> Result<Lines, OutOfMemory> {
     let mut lines = Lines::new(alloc);
     for text in texts {
         lines.push(words(alloc, text)?)?;
@@ -202,14 +202,14 @@ fn lines(alloc: Global, texts: &[&str]) -> Result<Lines, AllocError> {
     Ok(lines)
 }
 
-fn refused(alloc: Global, code: u8, shown: &str) -> Result<Reply, AllocError> {
+fn refused(alloc: Global, code: u8, shown: &str) -> Result<Reply, OutOfMemory> {
     Ok(Reply::Refused(Refusal {
         code,
         shown: words(alloc, shown)?,
     }))
 }
 
-fn loaded(alloc: Global) -> Result<Reply, AllocError> {
+fn loaded(alloc: Global) -> Result<Reply, OutOfMemory> {
     Ok(Reply::Loaded {
         table: words(alloc, "order id")?,
         rows: 0,
@@ -217,7 +217,7 @@ fn loaded(alloc: Global) -> Result<Reply, AllocError> {
     })
 }
 
-fn prepared(alloc: Global) -> Result<Reply, AllocError> {
+fn prepared(alloc: Global) -> Result<Reply, OutOfMemory> {
     Ok(Reply::Prepared {
         name: words(alloc, "q")?,
         tables: 5,

@@ -3,12 +3,12 @@ ghost use Rattle.std.specs.Prelude.{◌≡◌, IfOk, length};
 ghost use Rattle.std.specs.Fmt.{decimal};
 ghost use Rattle.session_model.specs.Running as running;
 
-use row_values::{ARGUMENT_COUNT, ARGUMENT_KIND, Kind, Refusal, Value, Words};
+use row_values::{ARGUMENT_COUNT, ARGUMENT_KIND, Kind, OutOfMemory, Refusal, Value, Words};
 use session_store::is_same_kind;
-use std::alloc::{AllocError, Global};
+use std::alloc::Global;
 
 /// The number in decimal.
-fn number_text(alloc: Global, number: usize) -> Result<Words, AllocError>
+fn number_text(alloc: Global, number: usize) -> Result<Words, OutOfMemory>
     ensures { IfOk result (λ text. text ≡ decimal number) }
 {
     let text = format!(in alloc; "{number}")?;
@@ -33,7 +33,7 @@ pub fn args_refusal(
     alloc: Global,
     kinds: &[Kind],
     args: &[Value],
-) -> Result<Option<Refusal>, AllocError>
+) -> Result<Option<Refusal>, OutOfMemory>
     ensures { IfOk result (λ refusal. refusal ≡ running.args_refusal kinds.now args.now) }
 {
     if args.len() != kinds.len() {

@@ -13,11 +13,11 @@ use csv_tables::Table;
 use plan_operators::scan;
 use plan_trees::{Access, Plan, Top, print_plan};
 use result_shape::row_text;
-use row_values::{Query, Value, Words};
+use row_values::{OutOfMemory, Query, Value, Words};
 use script_report::{Execution, Lines};
 use selectivity_counts::{selectivity_count, vector};
 use session_model::{COST_SCALE, RESULT_LIMIT, SELECTIVITIES_BUILT};
-use std::alloc::{AllocError, Global};
+use std::alloc::Global;
 use std::rc::Rc;
 
 /// Whether the statement is of the form that is executed so far.
@@ -31,7 +31,7 @@ pub fn is_built(q: &Query) -> bool
 }
 
 /// The one plan so far: a sequential scan of the one place.
-fn scan_plan(alloc: Global) -> Result<Top, AllocError>
+fn scan_plan(alloc: Global) -> Result<Top, OutOfMemory>
     ensures { IfOk result (λ top. top_tree top ≡ running.scan_plan) }
 {
     Ok(Top::Rows(Rc::new(alloc, Plan::Base(Access::Seq(0)))?))
@@ -52,7 +52,7 @@ fn execution(
     q: &Query,
     table: &Table,
     args: &[Value],
-) -> Result<Execution, AllocError>
+) -> Result<Execution, OutOfMemory>
     requires { running.is_built q.now ≡ true }
     ensures { IfOk result (λ execution. execution ≡ running.execution_of number name.now q.now (table.now.rows ∷ []) args.now) }
 {
@@ -67,7 +67,7 @@ fn execution(
 }
 
 /// The row lines of the rows of these numbers.
-fn row_lines(alloc: Global, q: &Query, table: &Table, rows: &[u32]) -> Result<Lines, AllocError>
+fn row_lines(alloc: Global, q: &Query, table: &Table, rows: &[u32]) -> Result<Lines, OutOfMemory>
     requires { running.is_built q.now ≡ true }
     ensures { IfOk result (λ lines. lines ≡ map (λ row. row_line (shown_row (table.now.rows ∷ []) q.now.items ((row ∷ []) ∷ []) (row ∷ []))) rows.now) }
 {
@@ -86,7 +86,7 @@ pub fn execute(
     q: &Query,
     table: &Table,
     args: &[Value],
-) -> Result<Option<(Execution, Lines)>, AllocError>
+) -> Result<Option<(Execution, Lines)>, OutOfMemory>
     requires { running.is_built q.now ≡ true }
     ensures { IfOk result (Executed number name.now q.now (table.now.rows ∷ []) args.now) }
 {

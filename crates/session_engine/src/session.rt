@@ -9,13 +9,13 @@ ghost use Rattle.session_model.specs.Step.{Step, CommandStep, LoadStep, PrepareS
 use crate::arguments::args_refusal;
 use crate::execution::{execute, is_built};
 use row_values::{
-    MISSING_FILE, NOT_BUILT, Query, Refusal, SYNTAX, TOO_MANY_ROWS, UNKNOWN_STATEMENT, Value,
-    Words, canonical_name,
+    MISSING_FILE, NOT_BUILT, OutOfMemory, Query, Refusal, SYNTAX, TOO_MANY_ROWS, UNKNOWN_STATEMENT,
+    Value, Words, canonical_name,
 };
 use script_report::{Command, Reply};
 use session_store::{Store, StoreFault};
 use sql_parser::Select;
-use std::alloc::{AllocError, Global};
+use std::alloc::Global;
 use std::marker::Model;
 
 /// The catalog, and the number of executions so far; contracts see the session's state.
@@ -77,7 +77,7 @@ impl Engine {
         alloc: Global,
         table: &Words,
         file: Option<&[u8]>,
-    ) -> Result<Reply, AllocError>
+    ) -> Result<Reply, OutOfMemory>
         requires { self.old.executions + self.old.versions < 2 ^ 60 }
         ensures ok { IfOk result (λ reply. LoadStep self.old table.now (option_map (λ bytes. bytes.now) file.entry) reply self.new) }
         ensures err { OnErr result (self.new ≡ self.old) }
@@ -94,12 +94,17 @@ impl Engine {
                 columns,
             }),
             Err(StoreFault::Refused(why)) => Ok(Reply::Refused(why)),
-            Err(StoreFault::Memory) => Err(AllocError),
+            Err(StoreFault::Memory) => Err(OutOfMemory),
         }
     }
 
     /// `prepare NAME SELECT ..`.
-    fn prepare(&mut self, alloc: Global, name: &Words, select: &Select) -> Result<Reply, AllocError>
+    fn prepare(
+        &mut self,
+        alloc: Global,
+        name: &Words,
+        select: &Select,
+    ) -> Result<Reply, OutOfMemory>
         ensures ok { IfOk result (λ reply. PrepareStep self.old name.now select.now reply self.new) }
         ensures err { OnErr result (self.new ≡ self.old) }
         ensures counts { self.new.executions + self.new.versions ≤ self.old.executions + self.old.versions + 1 }
@@ -108,12 +113,12 @@ impl Engine {
         match self.store.prepare(alloc, name, select) {
             Ok(statement) => Ok(prepared(shown, self.store.query(statement))),
             Err(StoreFault::Refused(why)) => Ok(Reply::Refused(why)),
-            Err(StoreFault::Memory) => Err(AllocError),
+            Err(StoreFault::Memory) => Err(OutOfMemory),
         }
     }
 
     /// `run NAME ARG*`.
-    fn run(&mut self, alloc: Global, name: &Words, args: &[Value]) -> Result<Reply, AllocError>
+    fn run(&mut self, alloc: Global, name: &Words, args: &[Value]) -> Result<Reply, OutOfMemory>
         requires { self.old.executions + self.old.versions < 2 ^ 60 }
         ensures ok { IfOk result (λ reply. RunStep self.old name.now args.now reply self.new) }
         ensures err { OnErr result (self.new ≡ self.old) }
@@ -151,7 +156,7 @@ impl Engine {
         alloc: Global,
         command: &Command,
         file: Option<&[u8]>,
-    ) -> Result<Reply, AllocError>
+    ) -> Result<Reply, OutOfMemory>
         requires { self.old.executions + self.old.versions < 2 ^ 60 }
         ensures ok { IfOk result (λ reply. CommandStep self.old command.now (option_map (λ bytes. bytes.now) file.entry) reply self.new) }
         ensures err { OnErr result (self.new ≡ self.old) }

@@ -2,8 +2,8 @@
 ghost use Rattle.std.specs.Prelude.{◌≡◌};
 ghost use Rattle.session_model.specs.Faults.{refusal};
 
-use row_values::{Refusal, Words};
-use std::alloc::{AllocError, AllocFailed};
+use row_values::{OutOfMemory, Refusal, Words};
+use std::alloc::AllocFailed;
 
 /// A refusal, or want of memory. Neither changes the catalog.
 #[derive(Debug, Drop)]
@@ -19,13 +19,13 @@ pub fn refused(code: u8, shown: Words) -> StoreFault
     StoreFault::Refused(Refusal { code, shown })
 }
 
-impl From<AllocError> for StoreFault {
+impl From<OutOfMemory> for StoreFault {
     ghost use Rattle.std.specs.Prelude.{◌≡◌};
     ghost use Rattle.session_store.specs.declared.faults.StoreFault.TheVariants.{Memory};
 
     ghost from_gives = { λ _ fault. fault ≡ Memory };
 
-    fn from(_error: AllocError) -> StoreFault {
+    fn from(_error: OutOfMemory) -> StoreFault {
         StoreFault::Memory
     }
 }

@@ -12,10 +12,11 @@ use crate::store::{Held, Store};
 use csv_tables::{Table, TableFault, read_table};
 use outside_model::FILE_LIMIT;
 use row_values::{
-    Column, FILE_TOO_LONG, Kind, NOT_A_TABLE, SCHEMA_DIFFERS, STORE_LIMIT, Words, canonical_name,
+    Column, FILE_TOO_LONG, Kind, NOT_A_TABLE, OutOfMemory, SCHEMA_DIFFERS, STORE_LIMIT, Words,
+    canonical_name,
 };
 use session_model::{HELD_BYTE_LIMIT, HELD_CELL_LIMIT, TABLE_LIMIT};
-use std::alloc::{AllocError, Global};
+use std::alloc::Global;
 use std::rc::Rc;
 
 /// The cells of a table.
@@ -54,7 +55,7 @@ fn are_same_columns(olds: &[Column], news: &[Column]) -> bool
 }
 
 /// What is shown of a fault that makes a file no table.
-fn fault_text(alloc: Global, fault: TableFault) -> Result<Words, AllocError>
+fn fault_text(alloc: Global, fault: TableFault) -> Result<Words, OutOfMemory>
     ensures { IfOk result (λ text. text ≡ shown_fault fault) }
 {
     let text = match fault {

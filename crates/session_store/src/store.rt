@@ -8,8 +8,8 @@ ghost use Rattle.session_store.specs.Kept.{IsLoaded, reads_table};
 use csv_tables::Table;
 use indexmap::IndexMap;
 use name_binder::Schemas;
-use row_values::{Place, Query, Schema, Words};
-use std::alloc::{AllocError, Global};
+use row_values::{OutOfMemory, Place, Query, Schema, Words};
+use std::alloc::Global;
 use std::marker::Model;
 use std::rc::Rc;
 
@@ -116,7 +116,7 @@ impl Store {
         &self,
         alloc: Global,
         places: &[Place],
-    ) -> Result<Vec<Rc<Table>>, AllocError>
+    ) -> Result<Vec<Rc<Table>>, OutOfMemory>
         requires { All (IsLoaded self.now.tables) places.now }
         ensures { IfOk result (λ tables. map (λ table. Some table.value) tables.items ≡ map (λ place. find_table self.now.tables place.table) places.now) }
     {
@@ -131,7 +131,7 @@ impl Store {
     }
 
     /// The present table of each place of the statement of this number, in FROM order.
-    pub fn tables_of(&self, alloc: Global, statement: u32) -> Result<Vec<Rc<Table>>, AllocError>
+    pub fn tables_of(&self, alloc: Global, statement: u32) -> Result<Vec<Rc<Table>>, OutOfMemory>
         requires { statement < length self.now.statements }
         ensures { IfOk result (λ tables. (q : Bound) → option_map (λ s. s.statement) (slice_get self.now.statements statement) ≡ Some q → map (λ table. Some table.value) tables.items ≡ map (λ place. find_table self.now.tables place.table) q.places) }
     {

@@ -1,5 +1,6 @@
 //! Why a text isn't read.
-use std::alloc::{AllocError, AllocFailed};
+use row_values::OutOfMemory;
+use std::alloc::AllocFailed;
 
 /// `Syntax`: the text is no statement. `Memory`: there was no memory left.
 #[derive(Clone, Copy, Debug, Drop, PartialEq, Eq)]
@@ -8,13 +9,13 @@ pub enum ParseFault {
     Memory,
 }
 
-impl From<AllocError> for ParseFault {
+impl From<OutOfMemory> for ParseFault {
     ghost use Rattle.std.specs.Prelude.{◌≡◌};
     ghost use Rattle.sql_parser.specs.declared.faults.ParseFault.TheVariants.{Memory};
 
     ghost from_gives = { λ _ e. e ≡ Memory };
 
-    fn from(_: AllocError) -> ParseFault {
+    fn from(_: OutOfMemory) -> ParseFault {
         ParseFault::Memory
     }
 }

@@ -7,11 +7,11 @@ ghost use Rattle.sql_parser.specs.Tokens as token;
 ghost use Rattle.sql_parser.specs.Canonical as spelled;
 
 use crate::statement::{RawCond, RawItem, RawKey, RawOperand, RawPlace, RawRef, RawTest, Select};
-use row_values::{Value, Words, push_name};
-use std::alloc::{AllocError, Global};
+use row_values::{OutOfMemory, Value, Words, push_name};
+use std::alloc::Global;
 
 /// Writes a text between single quotes, each quote in it doubled.
-fn push_text(out: &mut String, text: &str) -> Result<(), AllocError>
+fn push_text(out: &mut String, text: &str) -> Result<(), OutOfMemory>
     ensures { OnOk result (string_bytes out.new ≡ string_bytes out.old ++ token.quoted 39 text.now) }
 {
     out.push('\'')?;
@@ -27,7 +27,7 @@ fn push_text(out: &mut String, text: &str) -> Result<(), AllocError>
 }
 
 /// Writes a reference.
-fn push_ref(out: &mut String, at: &RawRef) -> Result<(), AllocError>
+fn push_ref(out: &mut String, at: &RawRef) -> Result<(), OutOfMemory>
     ensures { OnOk result (string_bytes out.new ≡ string_bytes out.old ++ spelled.ref_text at.now) }
 {
     if let Some(alias) = &at.alias {
@@ -39,7 +39,7 @@ fn push_ref(out: &mut String, at: &RawRef) -> Result<(), AllocError>
 }
 
 /// Writes an aggregate of a column.
-fn push_aggregate(out: &mut String, name: &str, at: &RawRef) -> Result<(), AllocError>
+fn push_aggregate(out: &mut String, name: &str, at: &RawRef) -> Result<(), OutOfMemory>
     ensures { OnOk result (string_bytes out.new ≡ string_bytes out.old ++ (name.now ++ spelled.ref_text at.now ++ codes ")")) }
 {
     out.push_str(name)?;
@@ -49,7 +49,7 @@ fn push_aggregate(out: &mut String, name: &str, at: &RawRef) -> Result<(), Alloc
 }
 
 /// Writes an item.
-fn push_item(out: &mut String, item: &RawItem) -> Result<(), AllocError>
+fn push_item(out: &mut String, item: &RawItem) -> Result<(), OutOfMemory>
     ensures { OnOk result (string_bytes out.new ≡ string_bytes out.old ++ spelled.item_text item.now) }
 {
     match item {
@@ -62,7 +62,7 @@ fn push_item(out: &mut String, item: &RawItem) -> Result<(), AllocError>
 }
 
 /// Writes a place.
-fn push_place(out: &mut String, place: &RawPlace) -> Result<(), AllocError>
+fn push_place(out: &mut String, place: &RawPlace) -> Result<(), OutOfMemory>
     ensures { OnOk result (string_bytes out.new ≡ string_bytes out.old ++ spelled.place_text place.now) }
 {
     push_name(out, place.table.as_str())?;
@@ -75,7 +75,7 @@ fn push_place(out: &mut String, place: &RawPlace) -> Result<(), AllocError>
 }
 
 /// Writes an operand.
-fn push_operand(alloc: Global, out: &mut String, operand: &RawOperand) -> Result<(), AllocError>
+fn push_operand(alloc: Global, out: &mut String, operand: &RawOperand) -> Result<(), OutOfMemory>
     ensures { OnOk result (string_bytes out.new ≡ string_bytes out.old ++ spelled.operand_text operand.now) }
 {
     match operand {
@@ -91,7 +91,7 @@ fn push_compared(
     out: &mut String,
     sign: &str,
     operand: &RawOperand,
-) -> Result<(), AllocError>
+) -> Result<(), OutOfMemory>
     ensures { OnOk result (string_bytes out.new ≡ string_bytes out.old ++ (sign.now ++ spelled.operand_text operand.now)) }
 {
     out.push_str(sign)?;
@@ -106,7 +106,7 @@ fn push_operands(
     word: &str,
     separator: &str,
     operands: &[RawOperand],
-) -> Result<(), AllocError>
+) -> Result<(), OutOfMemory>
     ensures { OnOk result (string_bytes out.new ≡ string_bytes out.old ++ spelled.listed_text word.now separator.now spelled.operand_text operands.now) }
 {
     let mut before = word;
@@ -119,7 +119,7 @@ fn push_operands(
 }
 
 /// Writes a test.
-fn push_test(alloc: Global, out: &mut String, test: &RawTest) -> Result<(), AllocError>
+fn push_test(alloc: Global, out: &mut String, test: &RawTest) -> Result<(), OutOfMemory>
     ensures { OnOk result (string_bytes out.new ≡ string_bytes out.old ++ spelled.test_text test.now) }
 {
     match test {
@@ -142,7 +142,7 @@ fn push_test(alloc: Global, out: &mut String, test: &RawTest) -> Result<(), Allo
 }
 
 /// Writes a condition.
-fn push_cond(alloc: Global, out: &mut String, cond: &RawCond) -> Result<(), AllocError>
+fn push_cond(alloc: Global, out: &mut String, cond: &RawCond) -> Result<(), OutOfMemory>
     ensures { OnOk result (string_bytes out.new ≡ string_bytes out.old ++ spelled.cond_text cond.now) }
 {
     match cond {
@@ -161,7 +161,7 @@ fn push_cond(alloc: Global, out: &mut String, cond: &RawCond) -> Result<(), Allo
 }
 
 /// Writes a key of ORDER BY.
-fn push_key(out: &mut String, key: &RawKey) -> Result<(), AllocError>
+fn push_key(out: &mut String, key: &RawKey) -> Result<(), OutOfMemory>
     ensures { OnOk result (string_bytes out.new ≡ string_bytes out.old ++ spelled.key_text key.now) }
 {
     push_ref(out, &key.at)?;
@@ -177,7 +177,7 @@ fn push_items(
     word: &str,
     separator: &str,
     items: &[RawItem],
-) -> Result<(), AllocError>
+) -> Result<(), OutOfMemory>
     ensures { OnOk result (string_bytes out.new ≡ string_bytes out.old ++ spelled.listed_text word.now separator.now spelled.item_text items.now) }
 {
     let mut before = word;
@@ -195,7 +195,7 @@ fn push_places(
     word: &str,
     separator: &str,
     places: &[RawPlace],
-) -> Result<(), AllocError>
+) -> Result<(), OutOfMemory>
     ensures { OnOk result (string_bytes out.new ≡ string_bytes out.old ++ spelled.listed_text word.now separator.now spelled.place_text places.now) }
 {
     let mut before = word;
@@ -214,7 +214,7 @@ fn push_conds(
     word: &str,
     separator: &str,
     conds: &[RawCond],
-) -> Result<(), AllocError>
+) -> Result<(), OutOfMemory>
     ensures { OnOk result (string_bytes out.new ≡ string_bytes out.old ++ spelled.listed_text word.now separator.now spelled.cond_text conds.now) }
 {
     let mut before = word;
@@ -232,7 +232,7 @@ fn push_refs(
     word: &str,
     separator: &str,
     refs: &[RawRef],
-) -> Result<(), AllocError>
+) -> Result<(), OutOfMemory>
     ensures { OnOk result (string_bytes out.new ≡ string_bytes out.old ++ spelled.listed_text word.now separator.now spelled.ref_text refs.now) }
 {
     let mut before = word;
@@ -250,7 +250,7 @@ fn push_keys(
     word: &str,
     separator: &str,
     keys: &[RawKey],
-) -> Result<(), AllocError>
+) -> Result<(), OutOfMemory>
     ensures { OnOk result (string_bytes out.new ≡ string_bytes out.old ++ spelled.listed_text word.now separator.now spelled.key_text keys.now) }
 {
     let mut before = word;
@@ -263,7 +263,7 @@ fn push_keys(
 }
 
 /// The canonical spelling of a statement: `parse` of it gives this very statement again.
-pub fn print(alloc: Global, s: &Select) -> Result<Words, AllocError>
+pub fn print(alloc: Global, s: &Select) -> Result<Words, OutOfMemory>
     ensures value { IfOk result (λ words. words ≡ spelled.canonical_text s.now) }
     ensures read_again { IfOk result (λ words. IsStatementText words s.now) }
 {

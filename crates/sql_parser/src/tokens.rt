@@ -12,8 +12,8 @@ ghost use Rattle.sql_parser.specs.Tokens as spelled;
 ghost use Rattle.sql_parser.specs.declared.tokens.Token.{Token};
 
 use crate::faults::ParseFault;
-use row_values::{Value, Words};
-use std::alloc::{AllocError, Global};
+use row_values::{OutOfMemory, Value, Words};
+use std::alloc::Global;
 use std::collections::VecDeque;
 
 /// A reserved word or a sign.
@@ -213,7 +213,7 @@ fn mark_at(marks: &[Mark], bytes: &[u8]) -> Option<Mark>
 
 /// What stands before the closing quote, each doubled quote once, and how many bytes that takes with the closing
 /// one; none exactly where the quotes don't close.
-fn unquoted(alloc: Global, inside: &str, quote: char) -> Result<Option<(Words, usize)>, AllocError>
+fn unquoted(alloc: Global, inside: &str, quote: char) -> Result<Option<(Words, usize)>, OutOfMemory>
     requires { quote < 128 }
     ensures { IfOk result (λ found. spelled.Unquotes quote inside.now found) }
 {
@@ -333,11 +333,11 @@ fn first_token(alloc: Global, text: &str) -> Result<(Token, usize), ParseFault>
 
 /// The token at the front of a text, and what follows it; none exactly where no token stands there. White space at the
 /// front isn't skipped.
-pub fn take_token(alloc: Global, text: &str) -> Result<Option<(Token, &str)>, AllocError>
+pub fn take_token(alloc: Global, text: &str) -> Result<Option<(Token, &str)>, OutOfMemory>
     ensures { IfOk result (λ found. option_map (λ f. (f.0, f.1.now)) found ≡ first_at text.now) }
 {
     match first_token(alloc, text) {
-        Err(ParseFault::Memory) => Err(AllocError),
+        Err(ParseFault::Memory) => Err(OutOfMemory),
         Err(ParseFault::Syntax) => Ok(None),
         Ok((token, len)) => Ok(Some((token, &text[len..]))),
     }

@@ -10,7 +10,8 @@ ghost use Rattle.table_index.specs.Indexes.{is_before};
 use crate::cells::has_same_cell;
 use crate::index::Index;
 use csv_tables::Table;
-use std::alloc::{AllocError, Global};
+use row_values::OutOfMemory;
+use std::alloc::Global;
 
 /// Whether no row before this position has an equal cell, where the rows stand in the order of their cells.
 fn is_new_cell(
@@ -67,7 +68,7 @@ fn distinct_sorted(numbers: &[i64]) -> u64
 }
 
 /// How many distinct numbers there are: a copy of them is sorted.
-fn distinct_numbers(alloc: Global, numbers: &[i64]) -> Result<u64, AllocError>
+fn distinct_numbers(alloc: Global, numbers: &[i64]) -> Result<u64, OutOfMemory>
     ensures { IfOk result (λ count. count ≡ distinct_count (λ a b. is_eq (int_cmp a b)) numbers.now) }
 {
     let mut sorted = Vec::with_capacity(alloc, numbers.len())?;
@@ -77,7 +78,7 @@ fn distinct_numbers(alloc: Global, numbers: &[i64]) -> Result<u64, AllocError>
 }
 
 /// How many distinct values a column has, without an index.
-pub fn distinct_values(alloc: Global, t: &Table, column: u8) -> Result<u64, AllocError>
+pub fn distinct_values(alloc: Global, t: &Table, column: u8) -> Result<u64, OutOfMemory>
     requires { column < length t.now.schema }
     ensures { IfOk result (λ count. count ≡ distinct_in t.now column) }
 {

@@ -12,7 +12,8 @@ use crate::bounds::{Bound, meets_high, meets_low};
 use crate::distinct::distinct_rows;
 use crate::sorting::sorted_rows;
 use csv_tables::Table;
-use std::alloc::{AllocError, Global};
+use row_values::OutOfMemory;
+use std::alloc::Global;
 use std::marker::Model;
 
 /// The rows of a table in the order of one column, and of equal cells in the order of their numbers.
@@ -32,7 +33,7 @@ impl Model for Index {
 
 impl Index {
     /// The index of this table over this column.
-    pub fn build(alloc: Global, t: &Table, column: u8) -> Result<Index, AllocError>
+    pub fn build(alloc: Global, t: &Table, column: u8) -> Result<Index, OutOfMemory>
         requires { column < length t.now.schema }
         ensures { IfOk result (λ index. IsBuilt t.now column index) }
     {

@@ -10,11 +10,12 @@ ghost use Rattle.table_index.specs.Indexes.{AreOrdered, number_order, row_order}
 
 use crate::cells::cell;
 use csv_tables::Table;
-use std::alloc::{AllocError, Global};
+use row_values::OutOfMemory;
+use std::alloc::Global;
 use std::cmp::Ordering;
 
 /// The numbers of so many rows, rising.
-fn all_rows(alloc: Global, count: usize) -> Result<Vec<u32>, AllocError>
+fn all_rows(alloc: Global, count: usize) -> Result<Vec<u32>, OutOfMemory>
     requires { count ≤ ROW_LIMIT }
     ensures { IfOk result (λ rows. rows.items ≡ row_numbers count) }
 {
@@ -34,7 +35,7 @@ fn order_of(t: &Table, column: usize, a: u32, b: u32) -> Ordering
 }
 
 /// The rows in the order of their cells.
-fn sorted_by_cell(alloc: Global, t: &Table, column: usize) -> Result<Vec<u32>, AllocError>
+fn sorted_by_cell(alloc: Global, t: &Table, column: usize) -> Result<Vec<u32>, OutOfMemory>
     requires { column < length t.now.schema }
     ensures { IfOk result (λ rows. AreOrdered t.now column rows.items) }
 {
@@ -44,7 +45,7 @@ fn sorted_by_cell(alloc: Global, t: &Table, column: usize) -> Result<Vec<u32>, A
 }
 
 /// The numbers of a column, each beside its row.
-fn numbered(alloc: Global, numbers: &[i64]) -> Result<Vec<(i64, u32)>, AllocError>
+fn numbered(alloc: Global, numbers: &[i64]) -> Result<Vec<(i64, u32)>, OutOfMemory>
     requires { length numbers.now ≤ ROW_LIMIT }
     ensures rows { IfOk result (λ pairs. map (λ pair. pair.1) pairs.items ≡ row_numbers (length numbers.now)) }
     ensures numbers { IfOk result (λ pairs. All (λ pair. slice_get numbers.now pair.1 ≡ Some pair.0) pairs.items) }
@@ -57,7 +58,7 @@ fn numbered(alloc: Global, numbers: &[i64]) -> Result<Vec<(i64, u32)>, AllocErro
 }
 
 /// The rows of these pairs.
-fn rows_of(alloc: Global, pairs: &[(i64, u32)]) -> Result<Vec<u32>, AllocError>
+fn rows_of(alloc: Global, pairs: &[(i64, u32)]) -> Result<Vec<u32>, OutOfMemory>
     ensures { IfOk result (λ rows. rows.items ≡ map (λ pair. pair.1) pairs.now) }
 {
     let mut rows = Vec::with_capacity(alloc, pairs.len())?;
@@ -68,7 +69,7 @@ fn rows_of(alloc: Global, pairs: &[(i64, u32)]) -> Result<Vec<u32>, AllocError>
 }
 
 /// The rows in the order of a packed column.
-fn sorted_by_number(alloc: Global, numbers: &[i64]) -> Result<Vec<u32>, AllocError>
+fn sorted_by_number(alloc: Global, numbers: &[i64]) -> Result<Vec<u32>, OutOfMemory>
     requires { length numbers.now ≤ ROW_LIMIT }
     ensures each_once { IfOk result (λ rows. IsPermutation (row_numbers (length numbers.now)) rows.items) }
     ensures in_order { IfOk result (λ rows. IsSortedBy (λ a b. is_lt (number_order numbers.now a b)) rows.items) }
@@ -80,7 +81,7 @@ fn sorted_by_number(alloc: Global, numbers: &[i64]) -> Result<Vec<u32>, AllocErr
 }
 
 /// The rows of a table in the order of a column.
-pub(crate) fn sorted_rows(alloc: Global, t: &Table, column: usize) -> Result<Vec<u32>, AllocError>
+pub(crate) fn sorted_rows(alloc: Global, t: &Table, column: usize) -> Result<Vec<u32>, OutOfMemory>
     requires { column < length t.now.schema }
     ensures { IfOk result (λ rows. AreOrdered t.now column rows.items) }
 {

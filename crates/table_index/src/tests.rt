@@ -7,46 +7,46 @@ ghost use Rattle.table_index.specs.Indexes.{IsBuilt};
 
 use crate::{Bound, Index, distinct_values};
 use csv_tables::{Table, read_table};
-use row_values::{Kind, Value, Words};
-use std::alloc::{AllocError, Global};
+use row_values::{Kind, OutOfMemory, Value, Words};
+use std::alloc::Global;
 
 /// A table whose first column is of whole numbers.
-fn numbers_of(alloc: Global, bytes: &[u8]) -> Result<Table, AllocError>
+fn numbers_of(alloc: Global, bytes: &[u8]) -> Result<Table, OutOfMemory>
     ensures inside { IfOk result (λ table. 0 < length table.schema) }
     ensures kind { IfOk result (λ table. slice_get (column_kinds table.schema) 0 ≡ Some kind.Int) }
 {
     let Ok(table) = read_table(alloc, bytes) else {
-        return Err(AllocError);
+        return Err(OutOfMemory);
     };
     if table.schema().columns().is_empty() {
-        return Err(AllocError);
+        return Err(OutOfMemory);
     }
     if table.numbers(0).is_none() {
-        return Err(AllocError);
+        return Err(OutOfMemory);
     }
     Ok(table)
 }
 
 /// A table whose first column is of texts.
 #[tactic(auto, using(csv_tables::proofs::PackedColumns::kind_read))]
-fn texts_of(alloc: Global, bytes: &[u8]) -> Result<Table, AllocError>
+fn texts_of(alloc: Global, bytes: &[u8]) -> Result<Table, OutOfMemory>
     ensures inside { IfOk result (λ table. 0 < length table.schema) }
     ensures kind { IfOk result (λ table. slice_get (column_kinds table.schema) 0 ≡ Some kind.Text) }
 {
     let Ok(table) = read_table(alloc, bytes) else {
-        return Err(AllocError);
+        return Err(OutOfMemory);
     };
     if table.schema().columns().is_empty() {
-        return Err(AllocError);
+        return Err(OutOfMemory);
     }
     match table.schema().columns()[0].kind {
         Kind::Text => Ok(table),
-        Kind::Int => Err(AllocError),
+        Kind::Int => Err(OutOfMemory),
     }
 }
 
 /// The rows of an index as `3 0 1`.
-fn rows_text(alloc: Global, rows: &[u32]) -> Result<String, AllocError> {
+fn rows_text(alloc: Global, rows: &[u32]) -> Result<String, OutOfMemory> {
     let mut text = String::new(alloc);
     for (position, row) in rows.iter().enumerate() {
         if position != 0 {
@@ -59,7 +59,7 @@ fn rows_text(alloc: Global, rows: &[u32]) -> Result<String, AllocError> {
 }
 
 #[test]
-fn numbers_are_ordered_by_value_and_row(rt: HostRuntime) -> Result<(), AllocError> {
+fn numbers_are_ordered_by_value_and_row(rt: HostRuntime) -> Result<(), OutOfMemory> {
     let alloc = rt.alloc();
     let bytes = b"v\n5\n5\n7\n-9223372036854775808\n9223372036854775807\n";
     let table = numbers_of(alloc, bytes)?;
@@ -93,7 +93,7 @@ fn numbers_are_ordered_by_value_and_row(rt: HostRuntime) -> Result<(), AllocErro
 }
 
 #[test]
-fn texts_are_ordered_by_bytes(rt: HostRuntime) -> Result<(), AllocError> {
+fn texts_are_ordered_by_bytes(rt: HostRuntime) -> Result<(), OutOfMemory> {
     let alloc = rt.alloc();
     let table = texts_of(alloc, b"v:text\nb\na\n10\nb\n9\n")?;
     let index = Index::build(alloc, &table, 0)?;
@@ -111,7 +111,7 @@ fn texts_are_ordered_by_bytes(rt: HostRuntime) -> Result<(), AllocError> {
 }
 
 #[test]
-fn an_empty_table_has_an_empty_index(rt: HostRuntime) -> Result<(), AllocError> {
+fn an_empty_table_has_an_empty_index(rt: HostRuntime) -> Result<(), OutOfMemory> {
     let alloc = rt.alloc();
     let table = numbers_of(alloc, b"v:int\n")?;
     let index = Index::build(alloc, &table, 0)?;

@@ -4,29 +4,29 @@ ghost use Rattle.std.specs.Prelude.{◌≡◌, IfOk};
 ghost use Rattle.growth_checker.specs.Expression.{Constant, formula, Plus, Selectivity, Times};
 
 use super::*;
-use std::alloc::AllocError;
+use row_values::OutOfMemory;
 use std::rc::Rc;
 use std::test::Fail;
 
-fn num(alloc: Global, c: u128) -> Result<Rc<Expr>, AllocError>
+fn num(alloc: Global, c: u128) -> Result<Rc<Expr>, OutOfMemory>
     ensures { IfOk result (λ e. formula e.value ≡ Constant c) }
 {
     Ok(Rc::new(alloc, Expr::Num(c))?)
 }
 
-fn sel(alloc: Global, i: u8) -> Result<Rc<Expr>, AllocError>
+fn sel(alloc: Global, i: u8) -> Result<Rc<Expr>, OutOfMemory>
     ensures { IfOk result (λ e. formula e.value ≡ Selectivity i) }
 {
     Ok(Rc::new(alloc, Expr::Sel(i))?)
 }
 
-fn sum(alloc: Global, l: Rc<Expr>, r: Rc<Expr>) -> Result<Rc<Expr>, AllocError>
+fn sum(alloc: Global, l: Rc<Expr>, r: Rc<Expr>) -> Result<Rc<Expr>, OutOfMemory>
     ensures { IfOk result (λ e. formula e.value ≡ Plus (formula l.value) (formula r.value)) }
 {
     Ok(Rc::new(alloc, Expr::Sum(l, r))?)
 }
 
-fn mul(alloc: Global, l: Rc<Expr>, r: Rc<Expr>) -> Result<Rc<Expr>, AllocError>
+fn mul(alloc: Global, l: Rc<Expr>, r: Rc<Expr>) -> Result<Rc<Expr>, OutOfMemory>
     ensures { IfOk result (λ e. formula e.value ≡ Times (formula l.value) (formula r.value)) }
 {
     Ok(Rc::new(alloc, Expr::Mul(l, r))?)

@@ -1,7 +1,8 @@
 //! Statements over two places, each with one thing changed.
 use super::*;
+use crate::OutOfMemory;
 use crate::columns::Column;
-use std::alloc::{AllocError, Global};
+use std::alloc::Global;
 use std::test::Fail;
 
 /// What is changed in the sound statement `SELECT a.n, b.s FROM t a, t b WHERE a.n < ? AND a.n = b.n`.
@@ -27,7 +28,7 @@ enum Change {
 }
 
 /// The columns `n` of numbers and `s` of texts.
-fn columns(alloc: Global) -> Result<Vec<Column>, AllocError> {
+fn columns(alloc: Global) -> Result<Vec<Column>, OutOfMemory> {
     let mut columns = Vec::new(alloc);
     columns.push(Column {
         name: Words::of(alloc, "n")?,
@@ -40,7 +41,7 @@ fn columns(alloc: Global) -> Result<Vec<Column>, AllocError> {
     Ok(columns)
 }
 
-fn place(alloc: Global, alias: &str) -> Result<Option<Place>, AllocError> {
+fn place(alloc: Global, alias: &str) -> Result<Option<Place>, OutOfMemory> {
     let Some(schema) = Schema::of(columns(alloc)?) else {
         return Ok(None);
     };
@@ -55,7 +56,7 @@ fn at(place: u8, column: u8) -> ColRef {
     ColRef { place, column }
 }
 
-fn make(alloc: Global, change: Change) -> Result<Option<Query>, AllocError> {
+fn make(alloc: Global, change: Change) -> Result<Option<Query>, OutOfMemory> {
     let mut places = Vec::new(alloc);
     if change != Change::NoPlace {
         if let Some(first) = place(alloc, "a")? {
@@ -179,7 +180,7 @@ fn a_parameter_has_the_kind_of_its_column(rt: HostRuntime) -> Result<(), Fail> {
 }
 
 /// An IN of so many parameters, the first of this number.
-fn one_of(alloc: Global, first: u8, count: u8) -> Result<Option<Operands>, AllocError> {
+fn one_of(alloc: Global, first: u8, count: u8) -> Result<Option<Operands>, OutOfMemory> {
     let mut parts = Vec::new(alloc);
     for i in 0..count {
         parts.push(Operand::Param(first.wrapping_add(i)))?;
