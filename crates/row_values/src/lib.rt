@@ -32,5 +32,5 @@ pub use statement::{
 pub use text::Words;
 pub use values::{Args, Kind, Value, compare};
 
-/// Want of memory: the one name for it in signatures.
-pub type OutOfMemory = std::alloc::AllocError;
+/// Want of memory: the one name for it.
+pub use std::alloc::AllocError as OutOfMemory;
