@@ -4,7 +4,8 @@ use Rattle.std.specs.Prelude.{filter}
 use Rattle.std.proofs.lemmas.List.Elements.{filter-append}
 use Rattle.row_values.specs.Statements.{Statement, IsSoundQuery}
 use Rattle.row_values.specs.declared.values.Value.{Value}
-use Rattle.statement_meaning.specs.Combinations.{kept_combinations, row_numbers}
+use Rattle.row_values.specs.RowNumbers.{row_numbers}
+use Rattle.statement_meaning.specs.Combinations.{kept_combinations}
 use Rattle.statement_meaning.specs.Conditions.{row_passes}
 use Rattle.statement_meaning.proofs.OnePlace.{one_place}
 

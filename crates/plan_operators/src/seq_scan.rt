@@ -2,7 +2,8 @@
 //!
 //! The operands are looked up once, before the first row. The way in is `scan`.
 ghost use Rattle.std.specs.Prelude.{◌≡◌, ◌∷◌, [], IfOk, length, map, filter, slice_index_or};
-ghost use Rattle.statement_meaning.specs.Combinations.{kept_combinations, row_numbers};
+ghost use Rattle.row_values.specs.RowNumbers.{row_numbers};
+ghost use Rattle.statement_meaning.specs.Combinations.{kept_combinations};
 ghost use Rattle.row_tests.specs.Ready.{all_hold};
 
 use csv_tables::Table;

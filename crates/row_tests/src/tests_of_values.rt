@@ -5,7 +5,8 @@
 ghost use Rattle.std.specs.Prelude.{◌≡◌, Some, IfSome, is_some, option_map};
 ghost use Rattle.row_values.specs.declared.values.Value.{Value as AnyValue};
 ghost use Rattle.std.specs.Prelude.{Option as Maybe};
-ghost use Rattle.statement_meaning.specs.Conditions.{operand_value, order_between, equals_one, meets};
+ghost use Rattle.row_values.specs.Orders.{order_between};
+ghost use Rattle.statement_meaning.specs.Conditions.{operand_value, equals_one, meets};
 ghost use Rattle.row_tests.specs.Ready.{number_holds, is_number_in, is_number, has_numbers};
 
 use row_values::{Operand, Test, Value, compare};

@@ -1,3 +1,7 @@
-mod WholeNumbers
+pub mod Counting
+pub mod InOrder
 pub mod Letters
 pub mod Parameters
+pub mod Rising
+pub mod TotalOrders
+mod WholeNumbers

@@ -2,7 +2,10 @@ pub mod Columns
 pub mod Names
 pub mod Numbers
 pub mod Operands
+pub mod Orders
 pub mod Plain
 pub mod Refusals
+pub mod RowNumbers
+pub mod Sorting
 pub mod Statements
 pub mod Values

@@ -16,12 +16,14 @@ use Rattle.row_values.specs.declared.statement.ColRef.{ColRef}
 use Rattle.row_values.specs.declared.statement.Item.{Item}
 use Rattle.row_values.specs.declared.statement.Item.TheVariants.{Column, CountAll, Sum, Min, Max}
 use Rattle.statement_meaning.specs.Combinations.{row_at}
-use Rattle.statement_meaning.specs.Meaning.{Shown, Total, value_order, cell_order, cell_of, column_order, keys_order, is_lower, group_keys, is_same_group, number_in, sum_of, shown_cell, shown_item, shown_row}
+use Rattle.row_values.specs.Orders.{value_order, cell_order}
+use Rattle.statement_meaning.specs.Meaning.{Shown, Total, cell_of, column_order, keys_order, is_lower, group_keys, is_same_group, number_in, sum_of, shown_cell, shown_item, shown_row}
 use Rattle.statement_meaning.specs.PartialCombinations.{is_same}
-use Rattle.statement_meaning.specs.Sorting.{put_in, in_order, least_of, times}
-use Rattle.statement_meaning.proofs.Counting.{exact_combinations, HaveSame}
-use Rattle.statement_meaning.proofs.FullOrders.{cell_order_total, lower_full}
-use Rattle.statement_meaning.proofs.InOrder.{equal_of, IsFullOrder, full_order_from, in_order_same}
+use Rattle.row_values.specs.Sorting.{put_in, in_order, least_of, times}
+use Rattle.row_values.proofs.Counting.{exact_lists, HaveSame}
+use Rattle.row_values.proofs.TotalOrders.{cell_order_total}
+use Rattle.statement_meaning.proofs.FullOrders.{lower_full}
+use Rattle.row_values.proofs.InOrder.{equal_of, IsFullOrder, full_order_from, in_order_same}
 
 -- The least of several.
 
@@ -81,7 +83,7 @@ least_with lt o f x c (m ∷ ms) h = by_test (is_same c m) refl h (λ k. least_w
   where
     by_test : (b : Bool) → is_same c m ≡ b → 1 ≤ cond b (suc (times is_same c ms)) (times is_same c ms) → (1 ≤ times is_same c ms → least_of lt (lesser lt (lesser lt x (f m)) (f c)) (map f ms) ≡ least_of lt (lesser lt x (f m)) (map f ms)) → least_of lt (lesser lt (lesser lt x (f c)) (f m)) (map f ms) ≡ least_of lt (lesser lt x (f m)) (map f ms)
     by_test true e k more =
-        let one : f c ≡ f m = ap f (exact_combinations.one c m e) in
+        let one : f c ≡ f m = ap f (exact_lists.one c m e) in
         ap (λ w. least_of lt w (map f ms)) (ap (λ y. lesser lt (lesser lt x y) (f m)) one ∙ lesser_again lt x (f m))
     by_test false e k more = ap (λ w. least_of lt w (map f ms)) (lesser_swap lt o x (f c) (f m)) ∙ more k
 
@@ -93,7 +95,7 @@ pub least_any : {X : Type 0} (lt : X → X → Bool) → IsFullOrder lt → (f :
 least_any lt o f c d ms ns same h k =
     least_from lt o f c d ms h (subst (λ (n : ℕ). 1 ≤ n) (sym (same d)) k)
     ∙ (sym (least_in_order lt o f is_lower (f d) ms)
-    ∙ (ap (λ (zs : List (List ℕ)). least_of lt (f d) (map f zs)) (in_order_same is_same exact_combinations is_lower lower_full ms ns same)
+    ∙ (ap (λ (zs : List (List ℕ)). least_of lt (f d) (map f zs)) (in_order_same is_same exact_lists is_lower lower_full ms ns same)
     ∙ least_in_order lt o f is_lower (f d) ns))
 
 -- The count and the sum.
@@ -111,7 +113,7 @@ length-in_order l [] = refl
 length-in_order l (x ∷ xs) = length-put l x (in_order l xs) ∙ ap suc (length-in_order l xs)
 
 pub count_any : (ms ns : List (List ℕ)) → HaveSame is_same ms ns → length ms ≡ length ns
-count_any ms ns same = sym (length-in_order is_lower ms) ∙ (ap length (in_order_same is_same exact_combinations is_lower lower_full ms ns same) ∙ length-in_order is_lower ns)
+count_any ms ns same = sym (length-in_order is_lower ms) ∙ (ap length (in_order_same is_same exact_lists is_lower lower_full ms ns same) ∙ length-in_order is_lower ns)
 
 swap_sum : (a b s : ℤ) → (a +ℤ (b +ℤ s)) ≡ (b +ℤ (a +ℤ s))
 swap_sum a b s = omega (arith, ints)
@@ -129,7 +131,7 @@ sum_in_order f l [] = refl
 sum_in_order f l (x ∷ xs) = sum_put f l x (in_order l xs) ∙ ap (λ (n : ℤ). number_in (f x) +ℤ n) (sum_in_order f l xs)
 
 pub sum_any : (f : List ℕ → Option Value) (ms ns : List (List ℕ)) → HaveSame is_same ms ns → sum_of (map f ms) ≡ sum_of (map f ns)
-sum_any f ms ns same = sym (sum_in_order f is_lower ms) ∙ (ap (λ (zs : List (List ℕ)). sum_of (map f zs)) (in_order_same is_same exact_combinations is_lower lower_full ms ns same) ∙ sum_in_order f is_lower ns)
+sum_any f ms ns same = sym (sum_in_order f is_lower ms) ∙ (ap (λ (zs : List (List ℕ)). sum_of (map f zs)) (in_order_same is_same exact_lists is_lower lower_full ms ns same) ∙ sum_in_order f is_lower ns)
 
 -- Cells of one group.
 

@@ -5,13 +5,14 @@ use Rattle.std.proofs.lemmas.Bool.{false≢true, eqb-true, eq-eqb, ne_eqb}
 use Rattle.std.proofs.lemmas.List.{ext_get_or, get_or-set_same, get_or-set_other, length-set}
 use Rattle.std.proofs.lemmas.List.Elements.{All-nil, All-cons, All-head, All-tail, All-filter, filter_passes}
 use Rattle.row_values.specs.declared.statement.Edge.{Edge}
-use Rattle.statement_meaning.specs.Combinations.{World, row_numbers, edges_hold}
+use Rattle.row_values.specs.RowNumbers.{row_numbers}
+use Rattle.statement_meaning.specs.Combinations.{World, edges_hold}
 use Rattle.statement_meaning.specs.PartialCombinations.{single, either, AreApart, HasSoundEdges, is_inside, edges_between, Fits, is_same, Once, merged, joined, Offers, placed, joined_rows, RowsOnce, OffersRows}
-use Rattle.statement_meaning.specs.Sorting.{times}
-use Rattle.statement_meaning.proofs.Counting.{exact_combinations, exact_numbers, HaveSame, all_of_same, times-filter, times_row_numbers}
+use Rattle.row_values.specs.Sorting.{times}
+use Rattle.row_values.proofs.Counting.{exact_lists, exact_numbers, HaveSame, all_of_same, times-filter, times_row_numbers}
 use Rattle.statement_meaning.proofs.Joining.{joined_once}
 use Rattle.statement_meaning.proofs.Merging.{merged_is, length-placed, placed_there, placed_elsewhere}
-use Rattle.statement_meaning.proofs.Rising.{below}
+use Rattle.row_values.proofs.Rising.{below}
 
 -- a place that isn't in the set is apart from it
 pub single_apart : (outer : ℕ → Bool) (place : ℕ) → outer place ≡ false → AreApart outer (single place)
@@ -55,11 +56,11 @@ same_placed world place i d g row = by_test (is_same d (placed world place row))
     by_test true e true h = e ∙ sym h
     by_test false e false h = e ∙ sym h
     by_test true e false h =
-        let there : get_or d place 0 ≡ row = ap (λ (z : List ℕ). get_or z place 0) (exact_combinations.one d (placed world place row) e) ∙ placed_there world place row i in
+        let there : get_or d place 0 ≡ row = ap (λ (z : List ℕ). get_or z place 0) (exact_lists.one d (placed world place row) e) ∙ placed_there world place row i in
         absurd (false≢true (sym h ∙ eq-eqb (get_or d place 0) row there))
     by_test false e true h =
         let whole : placed world place row ≡ d = ap (placed world place) (sym (eqb-true (get_or d place 0) row h)) ∙ placed_row world place i d g in
-        absurd (false≢true (sym e ∙ (ap (is_same d) whole ∙ exact_combinations.itself d)))
+        absurd (false≢true (sym e ∙ (ap (is_same d) whole ∙ exact_lists.itself d)))
 
 times_placed : (world : World) (place : ℕ) → place < world.wide → (d : List ℕ) → Fits world (single place) d → (rows : List ℕ) → times is_same d (map (placed world place) rows) ≡ times nat_eq (get_or d place 0) rows
 times_placed world place i d g [] = refl

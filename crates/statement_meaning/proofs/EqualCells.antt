@@ -13,10 +13,11 @@ use Rattle.std.proofs.lemmas.Map.Lookups.{exact_signed, exact_bytes}
 use Rattle.row_values.specs.declared.values.Value.{Value}
 use Rattle.row_values.specs.declared.values.Value.TheVariants.{Int, Text}
 use Rattle.row_values.specs.declared.statement.Edge.{Edge}
-use Rattle.statement_meaning.specs.Conditions.{compares, joins}
+use Rattle.row_values.specs.Orders.{compares}
+use Rattle.statement_meaning.specs.Conditions.{joins}
 use Rattle.row_values.specs.contracts.values.ValuePartialEq.TheImpl.{ghosts}
-use Rattle.statement_meaning.proofs.Counting.{IsExact}
-use Rattle.statement_meaning.proofs.InOrder.{equal_of}
+use Rattle.row_values.proofs.Counting.{IsExact}
+use Rattle.row_values.proofs.InOrder.{equal_of}
 
 -- both cells are there, and one value
 pub record AreEqual (left : Option Value) (right : Option Value) : Type 0 where

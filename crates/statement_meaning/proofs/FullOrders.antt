@@ -2,8 +2,8 @@
 -- row numbers is one sort by both.
 use Rattle.std.proofs.Common.{ℕ, ◌≡◌, Bool, true, false, List, [], ◌∷◌, cond, sym, ◌∙◌, refl}
 use Rattle.std.specs.Prelude.{All, IsPermutation, IsSortedBy}
-use Rattle.std.specs.Cmp.{IsTotalOrder, IsStrictWeakOrder, nat_cmp_total, int_cmp_total, back_total}
-use Rattle.std.specs.Cmp.Lexicographic.{options_total, slice_cmp, lists_total}
+use Rattle.std.specs.Cmp.{IsTotalOrder, IsStrictWeakOrder, nat_cmp_total, back_total}
+use Rattle.std.specs.Cmp.Lexicographic.{slice_cmp, lists_total}
 use Rattle.std.specs.declared.cmp.Ordering.{Ordering}
 use Rattle.std.specs.declared.cmp.Ordering.TheVariants.{Less, Equal, Greater}
 use Rattle.std.specs.Ordering.{is_lt, nat_cmp, ordering_then, ordering_reverse}
@@ -13,46 +13,14 @@ use Rattle.std.proofs.lemmas.List.Elements.{All-nil, All-cons, All-head, All-tai
 use Rattle.std.proofs.lemmas.List.Sorted.{ranks_by}
 use Rattle.std.proofs.lemmas.Map.Lookups.{exact_bytes}
 use Rattle.row_values.specs.declared.values.Value.{Value}
-use Rattle.row_values.specs.declared.values.Value.TheVariants.{Int, Text}
 use Rattle.row_values.specs.declared.statement.OrderKey.{OrderKey}
 use Rattle.statement_meaning.specs.FullOrder.{full_order, is_earlier}
-use Rattle.statement_meaning.specs.Meaning.{value_order, cell_order, cell_of, column_order, key_order, keys_order, is_before, is_lower}
+use Rattle.statement_meaning.specs.Meaning.{cell_of, column_order, key_order, keys_order, is_before, is_lower}
 use Rattle.statement_meaning.specs.PartialCombinations.{is_same}
-use Rattle.statement_meaning.specs.Sorting.{put_in, in_order, Rises}
-use Rattle.statement_meaning.proofs.Counting.{exact_combinations}
-use Rattle.statement_meaning.proofs.InOrder.{IsFullOrder, full_order_from, all_put, all_in_order, rises_in_order, risen_is_sorted, times_in_order, sorted_is}
-
--- the value order is total
-pub value_order_total : IsTotalOrder value_order
-value_order_total = record { antisymm = antisymm; trans = trans; congr = congr }
-  where
-    texts : IsTotalOrder (slice_cmp nat_cmp)
-    texts = lists_total nat_cmp_total
-
-    antisymm : (a b : Value) → value_order a b ≡ ordering_reverse (value_order b a)
-    antisymm (Int a) (Int b) = int_cmp_total.antisymm a b
-    antisymm (Text a) (Text b) = texts.antisymm a b
-    antisymm (Int a) (Text b) = refl
-    antisymm (Text a) (Int b) = refl
-
-    trans : (a b c : Value) → value_order a b ≡ Less → value_order b c ≡ Less → value_order a c ≡ Less
-    trans (Int a) (Int b) (Int c) h k = int_cmp_total.trans a b c h k
-    trans (Text a) (Text b) (Text c) h k = texts.trans a b c h k
-    trans (Int a) b (Text c) h k = refl
-    trans (Int a) (Text b) (Int c) h k = cc
-    trans (Text a) (Int b) c h k = cc
-    trans (Text a) (Text b) (Int c) h k = cc
-
-    congr : (a b c : Value) → value_order a b ≡ Equal → value_order a c ≡ value_order b c
-    congr (Int a) (Int b) (Int c) h = int_cmp_total.congr a b c h
-    congr (Int a) (Int b) (Text c) h = refl
-    congr (Text a) (Text b) (Text c) h = texts.congr a b c h
-    congr (Text a) (Text b) (Int c) h = refl
-    congr (Int a) (Text b) c h = cc
-    congr (Text a) (Int b) c h = cc
-
-pub cell_order_total : IsTotalOrder cell_order
-cell_order_total = options_total value_order_total
+use Rattle.row_values.specs.Sorting.{put_in, in_order, Rises}
+use Rattle.row_values.proofs.Counting.{exact_lists}
+use Rattle.row_values.proofs.TotalOrders.{cell_order_total}
+use Rattle.row_values.proofs.InOrder.{IsFullOrder, full_order_from, all_put, all_in_order, rises_in_order, risen_is_sorted, times_in_order, sorted_is}
 
 equal_total : IsTotalOrder (λ (a : List ℕ) (b : List ℕ). Equal)
 equal_total = record { antisymm = λ a b. refl; trans = λ a b c h k. h; congr = λ a b c h. refl }
@@ -122,10 +90,10 @@ rises_stable tables keys (x ∷ xs) r = put_stable tables keys x (in_order (is_b
 -- first by row numbers, then stably by keys: the same as once by both
 pub one_sort : (tables : List (List (List Value))) (keys : List OrderKey) (cs : List (List ℕ)) → in_order (is_before tables keys) (in_order is_lower cs) ≡ in_order (is_earlier tables keys) cs
 one_sort tables keys cs =
-    risen_is_sorted is_same exact_combinations (is_earlier tables keys) (earlier_full tables keys) cs (in_order (is_before tables keys) (in_order is_lower cs))
+    risen_is_sorted is_same exact_lists (is_earlier tables keys) (earlier_full tables keys) cs (in_order (is_before tables keys) (in_order is_lower cs))
     (λ c. times_in_order is_same (is_before tables keys) (in_order is_lower cs) c ∙ times_in_order is_same is_lower cs c)
     (rises_stable tables keys (in_order is_lower cs) (rises_in_order is_lower lower_full.ranks cs))
 
 -- so std's sort by both, stable or not, gives the stable order of the meaning
 pub sorted_by_both : (tables : List (List (List Value))) (keys : List OrderKey) (cs ds : List (List ℕ)) → IsPermutation cs ds → IsSortedBy (is_earlier tables keys) ds → ds ≡ in_order (is_before tables keys) (in_order is_lower cs)
-sorted_by_both tables keys cs ds p s = sorted_is is_same exact_combinations (is_earlier tables keys) (earlier_full tables keys) cs ds p s ∙ sym (one_sort tables keys cs)
+sorted_by_both tables keys cs ds p s = sorted_is is_same exact_lists (is_earlier tables keys) (earlier_full tables keys) cs ds p s ∙ sym (one_sort tables keys cs)

@@ -8,10 +8,10 @@ use Rattle.std.specs.declared.cmp.Ordering.TheVariants.{Less, Equal, Greater}
 use Rattle.std.proofs.lemmas.Bool.{false≢true, not-true}
 use Rattle.std.proofs.lemmas.Cmp.{tied_itself, alike_right}
 use Rattle.std.proofs.lemmas.List.Elements.{All-cons, All-head, All-tail, All-filter, filter_agree, filter_passes, All-weaker}
-use Rattle.statement_meaning.specs.Sorting.{Rises, times, heads, put_front, runs, classes}
-use Rattle.statement_meaning.proofs.Counting.{IsExact, times_rest, times-filter, times-filter_out}
-use Rattle.statement_meaning.proofs.InOrder.{equal_of, tie_of}
-use Rattle.statement_meaning.proofs.Rising.{filter_rises}
+use Rattle.row_values.specs.Sorting.{Rises, times, heads, put_front, runs, classes}
+use Rattle.row_values.proofs.Counting.{IsExact, times_rest, times-filter, times-filter_out}
+use Rattle.row_values.proofs.InOrder.{equal_of, tie_of}
+use Rattle.row_values.proofs.Rising.{filter_rises}
 
 -- An element that isn't in the class of its follower is in no class after it.
 abbrev pub Together : {X : Type 0} → (X → X → Bool) → List X → Type 0

@@ -17,13 +17,13 @@ use Rattle.statement_meaning.specs.FullOrder.{is_earlier}
 use Rattle.statement_meaning.specs.Groups.{first_member, group_row}
 use Rattle.statement_meaning.specs.Meaning.{Shown, key_order, keys_order, is_before, is_lower, group_keys, is_same_group, shown_row, plain_rows, group_rows, rows_shown, shape_of}
 use Rattle.statement_meaning.specs.PartialCombinations.{is_same}
-use Rattle.statement_meaning.specs.Sorting.{in_order, Rises, times, heads, runs, classes}
+use Rattle.row_values.specs.Sorting.{in_order, Rises, times, heads, runs, classes}
 use Rattle.statement_meaning.proofs.AnyOrder.{group_ties, row_any}
-use Rattle.statement_meaning.proofs.Counting.{exact_combinations, HaveSame, all_by_times, all_of_same, filter_of_same, times-filter, same_from_permutation}
+use Rattle.row_values.proofs.Counting.{exact_lists, HaveSame, all_by_times, all_of_same, filter_of_same, times-filter, same_from_permutation}
 use Rattle.statement_meaning.proofs.FullOrders.{keys_total, keys_ranked, lower_full, earlier_full, one_sort}
 use Rattle.statement_meaning.proofs.Grouping.{is_first, times_heads, heads_all, heads_rise, runs_are, together_in_order, class_heads, by_class_risen}
 use Rattle.statement_meaning.proofs.JoinOrder.{rises_map}
-use Rattle.statement_meaning.proofs.InOrder.{equal_of, in_order_same, times_in_order, all_in_order, rises_in_order, risen_is_sorted}
+use Rattle.row_values.proofs.InOrder.{equal_of, in_order_same, times_in_order, all_in_order, rises_in_order, risen_is_sorted}
 
 pub same_group_equivalence : (tables : List (List (List Value))) (groups : List ColRef) → IsEquivalence (is_same_group tables groups)
 same_group_equivalence tables groups = eq_by_cmp_equiv (keys_total tables (group_keys groups))
@@ -70,15 +70,15 @@ group_by_keys tables groups order a c d = by_case (keys_order tables (group_keys
 
 -- each element of a list stands in it
 all_stand : (cs : List (List ℕ)) → All (λ c. 1 ≤ times is_same c cs) cs
-all_stand cs = all_by_times is_same exact_combinations (λ c. 1 ≤ times is_same c cs) cs (λ c n e. omega (arith, e))
+all_stand cs = all_by_times is_same exact_lists (λ c. 1 ≤ times is_same c cs) cs (λ c n e. omega (arith, e))
 
 -- and among the members of its own group
 all_members : (tables : List (List (List Value))) (groups : List ColRef) (cs : List (List ℕ)) → All (λ c. 1 ≤ times is_same c (filter (is_same_group tables groups c) cs)) cs
-all_members tables groups cs = All-weaker (λ c. 1 ≤ times is_same c cs) (λ c. 1 ≤ times is_same c (filter (is_same_group tables groups c) cs)) (λ c h. subst (λ (n : ℕ). 1 ≤ n) (sym (times-filter is_same exact_combinations (is_same_group tables groups c) c ((same_group_equivalence tables groups).refl c) cs)) h) cs (all_stand cs)
+all_members tables groups cs = All-weaker (λ c. 1 ≤ times is_same c cs) (λ c. 1 ≤ times is_same c (filter (is_same_group tables groups c) cs)) (λ c h. subst (λ (n : ℕ). 1 ≤ n) (sym (times-filter is_same exact_lists (is_same_group tables groups c) c ((same_group_equivalence tables groups).refl c) cs)) h) cs (all_stand cs)
 
 -- what is counted by any test is the same of lists with the same elements
 same_counts : (test : List ℕ → List ℕ → Bool) (c : List ℕ) (xs ys : List (List ℕ)) → HaveSame is_same xs ys → times test c xs ≡ times test c ys
-same_counts test c xs ys h = sym (times_in_order test is_lower xs c) ∙ (ap (times test c) (in_order_same is_same exact_combinations is_lower lower_full xs ys h) ∙ times_in_order test is_lower ys c)
+same_counts test c xs ys h = sym (times_in_order test is_lower xs c) ∙ (ap (times test c) (in_order_same is_same exact_lists is_lower lower_full xs ys h) ∙ times_in_order test is_lower ys c)
 
 -- The rows of the groups of a list, from the heads of the classes of any list with the same elements, once these are in
 -- order of the keys: so groups may be gathered in any order, and put in order by any sort.
@@ -94,13 +94,13 @@ groups_by_heads tables items groups order shown keyed cs ds firsts h k r =
     (rises_in_order (is_before tables (order ++ group_keys groups)) (keys_ranked tables (order ++ group_keys groups)) (heads (is_same_group tables groups) cs)) r
     counts
     (all_in_order (is_before tables (order ++ group_keys groups)) (λ c. 1 ≤ times is_same c (filter (is_same_group tables groups c) cs)) (heads (is_same_group tables groups) cs) (heads_all (is_same_group tables groups) (λ c. 1 ≤ times is_same c (filter (is_same_group tables groups c) cs)) cs (all_members tables groups cs)))
-    (all_of_same is_same exact_combinations (λ d. 1 ≤ times is_same d (filter (is_same_group tables groups d) ds)) (heads (is_same_group tables groups) ds) firsts k (heads_all (is_same_group tables groups) (λ d. 1 ≤ times is_same d (filter (is_same_group tables groups d) ds)) ds (all_members tables groups ds)))
+    (all_of_same is_same exact_lists (λ d. 1 ≤ times is_same d (filter (is_same_group tables groups d) ds)) (heads (is_same_group tables groups) ds) firsts k (heads_all (is_same_group tables groups) (λ d. 1 ≤ times is_same d (filter (is_same_group tables groups d) ds)) ds (all_members tables groups ds)))
   where
     equivalence : IsEquivalence (is_same_group tables groups)
     equivalence = same_group_equivalence tables groups
 
     members : (c d : List ℕ) → is_same_group tables groups c d ≡ true → HaveSame is_same (filter (is_same_group tables groups c) cs) (filter (is_same_group tables groups d) ds)
-    members c d g m = filter_of_same is_same exact_combinations (is_same_group tables groups c) cs ds h m ∙ ap (times is_same m) (filter_agree (is_same_group tables groups c) (is_same_group tables groups d) (λ z. equivalence.congr c d z g) ds)
+    members c d g m = filter_of_same is_same exact_lists (is_same_group tables groups c) cs ds h m ∙ ap (times is_same m) (filter_agree (is_same_group tables groups c) (is_same_group tables groups d) (λ z. equivalence.congr c d z g) ds)
 
     counts : (c : List ℕ) → times (is_same_group tables groups) c (in_order (is_before tables (order ++ group_keys groups)) (heads (is_same_group tables groups) cs)) ≡ times (is_same_group tables groups) c firsts
     counts c =
@@ -114,15 +114,15 @@ groups_by_heads tables items groups order shown keyed cs ds firsts h k r =
 
 -- a head is the first member of its class
 heads_first : (tables : List (List (List Value))) (groups : List ColRef) (cs : List (List ℕ)) → All (λ h. first_member (filter (is_same_group tables groups h) cs) ≡ h) (heads (is_same_group tables groups) cs)
-heads_first tables groups cs = all_by_times is_same exact_combinations (λ h. first_member (filter (is_same_group tables groups h) cs) ≡ h) (heads (is_same_group tables groups) cs)
-    (λ c n e. by_list c n (filter (is_same_group tables groups c) cs) (sym (times_heads is_same exact_combinations (is_same_group tables groups) (same_group_equivalence tables groups) c cs) ∙ e))
+heads_first tables groups cs = all_by_times is_same exact_lists (λ h. first_member (filter (is_same_group tables groups h) cs) ≡ h) (heads (is_same_group tables groups) cs)
+    (λ c n e. by_list c n (filter (is_same_group tables groups c) cs) (sym (times_heads is_same exact_lists (is_same_group tables groups) (same_group_equivalence tables groups) c cs) ∙ e))
   where
     by_list : (c : List ℕ) (n : ℕ) (members : List (List ℕ)) → is_first is_same c members ≡ suc n → first_member members ≡ c
     by_list c n [] h = absurd (omega (arith, h))
     by_list c n (m ∷ members) h = by_test (is_same c m) refl h
       where
         by_test : (b : Bool) → is_same c m ≡ b → ◌≡◌ {A = ℕ} (cond b 1 0) (suc n) → m ≡ c
-        by_test true e k = sym (exact_combinations.one c m e)
+        by_test true e k = sym (exact_lists.one c m e)
         by_test false e k = absurd (omega (arith, k))
 
 firsts_go : (members : List ℕ → List (List ℕ)) (hs : List (List ℕ)) → All (λ h. first_member (members h) ≡ h) hs → map first_member (map members hs) ≡ hs
@@ -212,4 +212,4 @@ shape_by_classes q tables cs gathered s g p r =
 pub shape_by_order : (q : Statement) (tables : List (List (List Value))) (cs ds : List (List ℕ)) → q.groups ≡ [] → IsPermutation cs ds → Rises (is_earlier tables q.order) ds → shape_of q tables cs ≡ map (λ c. shown_row tables q.items (c ∷ []) c) ds
 shape_by_order q tables cs ds g p r =
     rows_of_plain tables q.items q.groups q.order (in_order is_lower cs) g
-    ∙ ap (map (λ c. shown_row tables q.items (c ∷ []) c)) (one_sort tables q.order cs ∙ sym (risen_is_sorted is_same exact_combinations (is_earlier tables q.order) (earlier_full tables q.order) cs ds (λ c. sym (same_from_permutation is_same cs ds p c)) r))
+    ∙ ap (map (λ c. shown_row tables q.items (c ∷ []) c)) (one_sort tables q.order cs ∙ sym (risen_is_sorted is_same exact_lists (is_earlier tables q.order) (earlier_full tables q.order) cs ds (λ c. sym (same_from_permutation is_same cs ds p c)) r))

@@ -12,11 +12,12 @@ use Rattle.row_values.specs.declared.values.Value.{Value}
 use Rattle.row_values.specs.declared.statement.OrderKey.{OrderKey}
 use Rattle.row_values.specs.declared.statement.ColRef.{ColRef}
 use Rattle.statement_meaning.specs.Combinations.{World, edges_hold, row_at}
-use Rattle.statement_meaning.specs.Meaning.{cell_order, cell_of, column_order, key_order, keys_order, is_before}
+use Rattle.row_values.specs.Orders.{cell_order}
+use Rattle.statement_meaning.specs.Meaning.{cell_of, column_order, key_order, keys_order, is_before}
 use Rattle.statement_meaning.specs.PartialCombinations.{single, edges_between, Fits, merged, joined, Offers, joined_rows, placed}
-use Rattle.statement_meaning.specs.Sorting.{Rises}
+use Rattle.row_values.specs.Sorting.{Rises}
 use Rattle.statement_meaning.proofs.FullOrders.{keys_ranked}
-use Rattle.statement_meaning.proofs.InOrder.{nothing_below_itself}
+use Rattle.row_values.proofs.InOrder.{nothing_below_itself}
 use Rattle.statement_meaning.proofs.Merging.{merged_first, placed_there}
 
 -- two elements that an order doesn't tell apart

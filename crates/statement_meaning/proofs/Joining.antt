@@ -7,8 +7,8 @@ use Rattle.std.proofs.lemmas.List.Elements.{All-nil, All-cons, All-head, All-tai
 use Rattle.row_values.specs.declared.statement.Edge.{Edge}
 use Rattle.statement_meaning.specs.Combinations.{World, edge_holds, edges_hold}
 use Rattle.statement_meaning.specs.PartialCombinations.{either, AreApart, is_inside, is_between, edges_inside, edges_between, Fits, is_same, Once, merged, joined, Offers}
-use Rattle.statement_meaning.specs.Sorting.{times}
-use Rattle.statement_meaning.proofs.Counting.{exact_combinations, times-append, times-filter}
+use Rattle.row_values.specs.Sorting.{times}
+use Rattle.row_values.proofs.Counting.{exact_lists, times-append, times-filter}
 use Rattle.statement_meaning.proofs.Merging.{length-merged, merged_first, merged_second, restricted, length-restricted, restricted_in, restricted_out}
 
 -- Edges.
@@ -175,19 +175,19 @@ same_merged world outer inner apart e fe c d f g = by_whole (is_same e (merged o
   where
     by_parts : (x : Bool) → is_same (restricted outer e) c ≡ x → (y : Bool) → is_same (restricted inner e) d ≡ y → is_same e (merged outer c d) ≡ false → false ≡ (x && y)
     by_parts true p true q n =
-        let one : restricted outer e ≡ c = exact_combinations.one (restricted outer e) c p in
-        let two : restricted inner e ≡ d = exact_combinations.one (restricted inner e) d q in
+        let one : restricted outer e ≡ c = exact_lists.one (restricted outer e) c p in
+        let two : restricted inner e ≡ d = exact_lists.one (restricted inner e) d q in
         let whole : merged outer c d ≡ e = ap (λ (z : List ℕ). merged outer z d) (sym one) ∙ (ap (merged outer (restricted outer e)) (sym two) ∙ merged_parts world outer inner e fe) in
-        absurd (false≢true (sym n ∙ (ap (is_same e) whole ∙ exact_combinations.itself e)))
+        absurd (false≢true (sym n ∙ (ap (is_same e) whole ∙ exact_lists.itself e)))
     by_parts true p false q n = refl
     by_parts false p y q n = refl
 
     by_whole : (b : Bool) → is_same e (merged outer c d) ≡ b → is_same e (merged outer c d) ≡ (is_same (restricted outer e) c && is_same (restricted inner e) d)
     by_whole true k =
-        let whole : e ≡ merged outer c d = exact_combinations.one e (merged outer c d) k in
+        let whole : e ≡ merged outer c d = exact_lists.one e (merged outer c d) k in
         let one : restricted outer e ≡ c = ap (restricted outer) whole ∙ first_of_merged world outer inner apart c d f g in
         let two : restricted inner e ≡ d = ap (restricted inner) whole ∙ second_of_merged world outer inner apart c d f g in
-        k ∙ sym (rw (one, two, exact_combinations.itself c, exact_combinations.itself d) refl)
+        k ∙ sym (rw (one, two, exact_lists.itself c, exact_lists.itself d) refl)
     by_whole false k = k ∙ by_parts (is_same (restricted outer e) c) refl (is_same (restricted inner e) d) refl k
 
 -- how often it stands among those that one combination of the outer side makes
@@ -206,7 +206,7 @@ times_merged world outer inner apart e fe c f (d ∷ ds) a =
 times_piece : (world : World) (outer inner : ℕ → Bool) → AreApart outer inner → (e : List ℕ) → Fits world (either outer inner) e → (c : List ℕ) → Fits world outer c → (ds : List (List ℕ)) → Offers world outer inner c ds →
     times is_same e (filter (edges_hold world (edges_between world outer inner)) (map (merged outer c) ds)) ≡ cond (is_same (restricted outer e) c) 1 0
 times_piece world outer inner apart e fe c f ds o =
-    times-filter is_same exact_combinations (edges_hold world (edges_between world outer inner)) e p.between (map (merged outer c) ds)
+    times-filter is_same exact_lists (edges_hold world (edges_between world outer inner)) e p.between (map (merged outer c) ds)
     ∙ (times_merged world outer inner apart e fe c f ds o.only ∙ by_test (is_same (restricted outer e) c) refl)
   where
     p : Parts world outer inner e
@@ -214,7 +214,7 @@ times_piece world outer inner apart e fe c f ds o =
 
     by_test : (b : Bool) → is_same (restricted outer e) c ≡ b → ◌≡◌ {A = ℕ} (cond b (times is_same (restricted inner e) ds) 0) (cond b 1 0)
     by_test true k =
-        let whole : merged outer c (restricted inner e) ≡ e = ap (λ (z : List ℕ). merged outer z (restricted inner e)) (sym (exact_combinations.one (restricted outer e) c k)) ∙ merged_parts world outer inner e fe in
+        let whole : merged outer c (restricted inner e) ≡ e = ap (λ (z : List ℕ). merged outer z (restricted inner e)) (sym (exact_lists.one (restricted outer e) c k)) ∙ merged_parts world outer inner e fe in
         o.once (restricted inner e) p.second (ap (edges_hold world (edges_between world outer inner)) whole ∙ p.between)
     by_test false k = refl
 
@@ -262,7 +262,7 @@ all_offered world outer inner c ds o = record { only = o.only; once = λ d g h. 
 pub passing_offered : (world : World) (outer inner : ℕ → Bool) (c : List ℕ) (ds : List (List ℕ)) (p : List ℕ → Bool) → Once world inner ds → ((d : List ℕ) → Fits world inner d → edges_hold world (edges_between world outer inner) (merged outer c d) ≡ true → p d ≡ true) → Offers world outer inner c (filter p ds)
 passing_offered world outer inner c ds p o h = record {
   only = All-filter p (Fits world inner) ds o.only;
-  once = λ d g m. times-filter is_same exact_combinations p d (h d g m) ds ∙ o.once d g;
+  once = λ d g m. times-filter is_same exact_lists p d (h d g m) ds ∙ o.once d g;
 }
 
 -- nothing, where no combination of the inner side meets the edges between with this one

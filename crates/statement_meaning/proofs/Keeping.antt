@@ -10,14 +10,15 @@ use Rattle.row_values.specs.declared.values.Value.{Value}
 use Rattle.row_values.specs.declared.statement.ColRef.{ColRef}
 use Rattle.row_values.specs.declared.statement.Edge.{Edge}
 use Rattle.row_values.specs.declared.statement.Place.{Place}
-use Rattle.statement_meaning.specs.Combinations.{World, row_numbers, combinations, sizes_from, rows_pass, edges_hold, keeps, kept, world_of}
+use Rattle.row_values.specs.RowNumbers.{row_numbers}
+use Rattle.statement_meaning.specs.Combinations.{World, combinations, sizes_from, rows_pass, edges_hold, keeps, kept, world_of}
 use Rattle.statement_meaning.specs.Meaning.{is_lower, rows_shown, shape_of, meaning_of}
 use Rattle.statement_meaning.specs.PartialCombinations.{all_places, HasSoundEdges, is_inside, Fits, is_same, Once}
-use Rattle.statement_meaning.specs.Sorting.{in_order, times}
-use Rattle.statement_meaning.proofs.Counting.{exact_combinations, HaveSame, times-append, times-filter, times_row_numbers, times_all, all_of_same, same_from_permutation}
+use Rattle.row_values.specs.Sorting.{in_order, times}
+use Rattle.row_values.proofs.Counting.{exact_lists, HaveSame, times-append, times-filter, times_row_numbers, times_all, all_of_same, same_from_permutation}
 use Rattle.statement_meaning.proofs.FullOrders.{lower_full}
-use Rattle.statement_meaning.proofs.InOrder.{in_order_same, times_in_order}
-use Rattle.statement_meaning.proofs.Rising.{InBox, all_box, in_order-kept}
+use Rattle.row_values.proofs.InOrder.{in_order_same, times_in_order}
+use Rattle.statement_meaning.proofs.KeptOrder.{InBox, all_box, in_order-kept}
 
 -- A sound statement has sound edges.
 
@@ -97,7 +98,7 @@ kept_once world sound = record {
   once = λ c f.
       let good = good_box world world.wide 0 c f.long (λ i h. rw zero-add (f.within i (lt-ltb i world.wide h))) in
       let edges : edges_hold world world.edges c ≡ true = ap (λ (es : List Edge). edges_hold world es c) (sym (all_inside world world.edges sound.there)) ∙ f.met in
-      times-filter is_same exact_combinations (keeps world) c (rw (good.1, edges) refl) (combinations (sizes_from world 0 world.wide)) ∙ box_times (sizes_from world 0 world.wide) c good.0;
+      times-filter is_same exact_lists (keeps world) c (rw (good.1, edges) refl) (combinations (sizes_from world 0 world.wide)) ∙ box_times (sizes_from world 0 world.wide) c good.0;
 }
   where
     fits : (c : List ℕ) → InBox (sizes_from world 0 world.wide) c → keeps world c ≡ true → Fits world (all_places world) c
@@ -119,13 +120,13 @@ once_same world places xs ys a b c = by_count (times is_same c xs) refl (times i
   where
     by_count : (m : ℕ) → times is_same c xs ≡ m → (n : ℕ) → times is_same c ys ≡ n → times is_same c xs ≡ times is_same c ys
     by_count zero e zero f = e ∙ sym f
-    by_count (suc m) e n f = let fit : Fits world places c = times_all is_same exact_combinations (Fits world places) c m xs a.only e in a.once c fit ∙ sym (b.once c fit)
-    by_count zero e (suc n) f = let fit : Fits world places c = times_all is_same exact_combinations (Fits world places) c n ys b.only f in a.once c fit ∙ sym (b.once c fit)
+    by_count (suc m) e n f = let fit : Fits world places c = times_all is_same exact_lists (Fits world places) c m xs a.only e in a.once c fit ∙ sym (b.once c fit)
+    by_count zero e (suc n) f = let fit : Fits world places c = times_all is_same exact_lists (Fits world places) c n ys b.only f in a.once c fit ∙ sym (b.once c fit)
 
 -- and a list with the same elements is another
 pub once_of_same : (world : World) (places : ℕ → Bool) (xs ys : List (List ℕ)) → HaveSame is_same xs ys → Once world places xs → Once world places ys
 once_of_same world places xs ys h o = record {
-  only = all_of_same is_same exact_combinations (Fits world places) xs ys h o.only;
+  only = all_of_same is_same exact_lists (Fits world places) xs ys h o.only;
   once = λ c f. sym (h c) ∙ o.once c f;
 }
 
@@ -142,7 +143,7 @@ once_places world places others h cs o = subst (λ (s : ℕ → Bool). Once worl
 
 -- Over all places, a list that has each combination once is the kept combinations in some order,
 pub once_is_kept : (world : World) → HasSoundEdges world → (cs : List (List ℕ)) → Once world (all_places world) cs → in_order is_lower cs ≡ kept world
-once_is_kept world sound cs o = in_order_same is_same exact_combinations is_lower lower_full cs (kept world) (once_same world (all_places world) cs (kept world) o (kept_once world sound)) ∙ in_order-kept world
+once_is_kept world sound cs o = in_order_same is_same exact_lists is_lower lower_full cs (kept world) (once_same world (all_places world) cs (kept world) o (kept_once world sound)) ∙ in_order-kept world
 
 -- and the other way round;
 pub kept_is_once : (world : World) → HasSoundEdges world → (cs : List (List ℕ)) → in_order is_lower cs ≡ kept world → Once world (all_places world) cs
@@ -154,4 +155,4 @@ once_means q tables args s cs o = ap (rows_shown tables q.items q.groups q.order
 
 -- and among its members that pass a test, such as those of a group, each that fits and passes stands once.
 pub once_filtered : (world : World) (places : ℕ → Bool) (cs : List (List ℕ)) → Once world places cs → (p : List ℕ → Bool) (c : List ℕ) → Fits world places c → p c ≡ true → times is_same c (filter p cs) ≡ 1
-once_filtered world places cs o p c f h = times-filter is_same exact_combinations p c h cs ∙ o.once c f
+once_filtered world places cs o p c f h = times-filter is_same exact_lists p c h cs ∙ o.once c f

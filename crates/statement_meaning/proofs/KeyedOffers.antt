@@ -9,12 +9,14 @@ use Rattle.row_values.specs.declared.values.Value.{Value}
 use Rattle.row_values.specs.declared.statement.ColRef.{ColRef}
 use Rattle.row_values.specs.declared.statement.Edge.{Edge}
 use Rattle.row_values.specs.declared.statement.Pred.{Pred}
-use Rattle.statement_meaning.specs.Combinations.{row_numbers, edges_hold, row_at, world_of}
-use Rattle.statement_meaning.specs.Conditions.{compares, holds}
+use Rattle.row_values.specs.RowNumbers.{row_numbers}
+use Rattle.statement_meaning.specs.Combinations.{edges_hold, row_at, world_of}
+use Rattle.row_values.specs.Orders.{compares}
+use Rattle.statement_meaning.specs.Conditions.{holds}
 use Rattle.statement_meaning.specs.Meaning.{cell_of}
 use Rattle.statement_meaning.specs.PartialCombinations.{single, AreApart, is_between, end_in, edges_between, Fits, Once, merged, Offers, RowsOnce, OffersRows}
 use Rattle.statement_meaning.proofs.Asking.{edge_asks, edge_asks_back, row_asks, row_asks_back, pred_asks}
-use Rattle.statement_meaning.proofs.Counting.{HaveSame}
+use Rattle.row_values.proofs.Counting.{HaveSame}
 use Rattle.statement_meaning.proofs.Entering.{single_apart, passing_rows_offered, tested_rows_once, tested_rows_offered}
 use Rattle.statement_meaning.proofs.EqualCells.{equal_cells, cells_equal}
 use Rattle.statement_meaning.proofs.Joining.{passing_offered}

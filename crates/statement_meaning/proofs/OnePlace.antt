@@ -13,7 +13,8 @@ use Rattle.row_values.specs.declared.statement.Test.{Test}
 use Rattle.row_values.specs.declared.statement.Test.TheVariants.{Lt, Le, Gt, Ge, Eq, Between, OneOf}
 use Rattle.row_values.specs.declared.statement.Edge.{Edge}
 use Rattle.row_values.specs.declared.statement.Place.{Place}
-use Rattle.statement_meaning.specs.Combinations.{World, row_numbers, combinations, sizes_from, keeps, kept, edges_hold, kept_combinations, world_of, row_at, rows_at}
+use Rattle.row_values.specs.RowNumbers.{row_numbers}
+use Rattle.statement_meaning.specs.Combinations.{World, combinations, sizes_from, keeps, kept, edges_hold, kept_combinations, world_of, row_at, rows_at}
 use Rattle.statement_meaning.specs.Conditions.{row_passes}
 
 -- a column of the one place

@@ -9,12 +9,13 @@ use Rattle.row_values.specs.Statements.{Statement, IsSoundQuery}
 use Rattle.row_values.specs.declared.values.Value.{Value}
 use Rattle.row_values.specs.declared.statement.Edge.{Edge}
 use Rattle.row_values.specs.declared.statement.OrderKey.{OrderKey}
-use Rattle.statement_meaning.specs.Combinations.{row_numbers, row_at, edges_hold, world_of}
-use Rattle.statement_meaning.specs.Conditions.{compares}
+use Rattle.row_values.specs.RowNumbers.{row_numbers}
+use Rattle.statement_meaning.specs.Combinations.{row_at, edges_hold, world_of}
+use Rattle.row_values.specs.Orders.{compares}
 use Rattle.statement_meaning.specs.Meaning.{cell_of, is_before}
 use Rattle.statement_meaning.specs.PartialCombinations.{single, is_between, end_in, Fits, Once, merged, joined, Offers, placed, joined_rows, RowsOnce, OffersRows}
-use Rattle.statement_meaning.specs.Sorting.{Rises}
-use Rattle.statement_meaning.proofs.Counting.{HaveSame}
+use Rattle.row_values.specs.Sorting.{Rises}
+use Rattle.row_values.proofs.Counting.{HaveSame}
 use Rattle.statement_meaning.proofs.Entering.{rows_once, joined_rows_once, all_rows_offered}
 use Rattle.statement_meaning.proofs.JoinOrder.{joined_rises, joined_rows_rises}
 use Rattle.statement_meaning.proofs.Joining.{joined_once}

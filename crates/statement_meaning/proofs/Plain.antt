@@ -7,7 +7,8 @@ use Rattle.row_values.specs.declared.statement.ColRef.{ColRef}
 use Rattle.row_values.specs.declared.statement.OrderKey.{OrderKey}
 use Rattle.statement_meaning.specs.Combinations.{kept_combinations, world_of}
 use Rattle.statement_meaning.specs.Meaning.{Shown, shown_row, rows_shown, is_before, meaning_of}
-use Rattle.statement_meaning.proofs.Rising.{in_order-ties, in_order-kept}
+use Rattle.row_values.proofs.Rising.{in_order-ties}
+use Rattle.statement_meaning.proofs.KeptOrder.{in_order-kept}
 
 plain : (tables : List (List (List Value))) (items : List Item) (groups : List ColRef) (order : List OrderKey) (combos : List (List ℕ)) → groups ≡ [] → order ≡ [] → rows_shown tables items groups order combos ≡ map (λ c. shown_row tables items (c ∷ []) c) combos
 plain tables items [] [] combos g o = ap (map (λ c. shown_row tables items (c ∷ []) c)) (in_order-ties (is_before tables []) (λ a b. refl) combos)

@@ -3,13 +3,9 @@ use Rattle.std.specs.Prelude.{ℕ, zero, suc, List, [], ◌∷◌, ◌++◌, map
 use Rattle.std.specs.List.{filter, flat_map}
 use Rattle.row_values.specs.declared.values.Value.{Value}
 use Rattle.row_values.specs.declared.statement.Edge.{Edge}
+use Rattle.row_values.specs.RowNumbers.{row_numbers}
 use Rattle.row_values.specs.Statements.{Statement}
 use Rattle.statement_meaning.specs.Conditions.{joins, row_passes}
-
--- the numbers of so many rows, rising
-abbrev pub row_numbers : ℕ → List ℕ
-row_numbers zero = []
-row_numbers (suc count) = row_numbers count ++ count ∷ []
 
 -- all combinations where the places have so many rows, in lexicographic order
 abbrev pub combinations : List ℕ → List (List ℕ)

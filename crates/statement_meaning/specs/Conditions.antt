@@ -5,7 +5,7 @@ use Rattle.std.specs.Prelude.{ℕ, List, [], ◌∷◌, slice_get, Bool, true, f
 use Rattle.std.specs.Option.{option_map_or}
 use Rattle.std.specs.Ordering.{is_lt, is_le, is_gt, is_ge, is_eq}
 use Rattle.std.specs.declared.cmp.Ordering.{Ordering}
-use Rattle.row_values.specs.Values.{value_cmp}
+use Rattle.row_values.specs.Orders.{compares}
 use Rattle.row_values.specs.declared.values.Value.{Value}
 use Rattle.row_values.specs.declared.statement.Operand.{Operand}
 use Rattle.row_values.specs.declared.statement.Operand.TheVariants.{Literal, Param}
@@ -18,16 +18,6 @@ use Rattle.row_values.specs.declared.statement.Edge.{Edge}
 abbrev pub operand_value : List Value → Operand → Option Value
 operand_value args (Literal value) = Some value
 operand_value args (Param number) = slice_get args number
-
--- how two values stand, where both are there and of one kind
-abbrev pub order_between : Option Value → Option Value → Option Ordering
-order_between None right = None
-order_between (Some left) None = None
-order_between (Some left) (Some right) = value_cmp left right
-
--- whether they stand so
-abbrev pub compares : (Ordering → Bool) → Option Value → Option Value → Bool
-compares passes left right = option_map_or passes (order_between left right) false
 
 -- whether a cell equals one of the operands
 abbrev pub equals_one : List Value → Option Value → List Operand → Bool

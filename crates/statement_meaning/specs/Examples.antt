@@ -15,7 +15,7 @@ use Rattle.row_values.specs.declared.statement.OrderKey.{OrderKey}
 use Rattle.statement_meaning.specs.Combinations.{kept_combinations, world_of}
 use Rattle.statement_meaning.specs.Meaning.{Shown, Cell, is_lower, is_same_group, meaning_of, shape_of}
 use Rattle.statement_meaning.specs.PartialCombinations.{single, either, joined}
-use Rattle.statement_meaning.specs.Sorting.{in_order, runs}
+use Rattle.row_values.specs.Sorting.{in_order, runs}
 use Rattle.statement_meaning.specs.Spelling.{row_line}
 use Rattle.statement_meaning.specs.Vectors.{vector_of}
 

@@ -5,6 +5,5 @@ pub mod FullOrder
 pub mod Groups
 pub mod Meaning
 pub mod PartialCombinations
-pub mod Sorting
 pub mod Spelling
 pub mod Vectors

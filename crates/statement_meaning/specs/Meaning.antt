@@ -6,6 +6,7 @@ use Rattle.std.specs.Ordering.{nat_cmp, int_cmp, is_lt, is_eq, ordering_then}
 use Rattle.std.specs.Cmp.Lexicographic.{slice_cmp}
 use Rattle.std.specs.declared.cmp.Ordering.{Ordering}
 use Rattle.std.specs.declared.cmp.Ordering.TheVariants.{Less, Equal, Greater}
+use Rattle.row_values.specs.Orders.{cell_order}
 use Rattle.row_values.specs.Statements.{Statement}
 use Rattle.row_values.specs.declared.values.Value.{Value}
 use Rattle.row_values.specs.declared.values.Value.TheVariants.{Int, Text}
@@ -14,7 +15,7 @@ use Rattle.row_values.specs.declared.statement.Item.{Item}
 use Rattle.row_values.specs.declared.statement.Item.TheVariants.{Column, CountAll, Sum, Min, Max}
 use Rattle.row_values.specs.declared.statement.OrderKey.{OrderKey}
 use Rattle.statement_meaning.specs.Combinations.{row_at, kept_combinations}
-use Rattle.statement_meaning.specs.Sorting.{in_order, heads, least_of}
+use Rattle.row_values.specs.Sorting.{in_order, heads, least_of}
 
 -- what a result row shows at an item: a value, or a whole number of any size
 pub data Shown : Type 0 where
@@ -24,16 +25,6 @@ pub data Shown : Type 0 where
 -- the cell that a combination has in a column
 abbrev pub cell_of : List (List (List Value)) → List ℕ → ColRef → Option Value
 cell_of tables c at = slice_get (row_at tables at.place (slice_index_or c at.place 0)) at.column
-
--- The value order; where the kinds differ, which they don't in one column, numbers come first.
-abbrev pub value_order : Value → Value → Ordering
-value_order (Int a) (Int b) = int_cmp a b
-value_order (Text a) (Text b) = slice_cmp nat_cmp a b
-value_order (Int a) (Text b) = Less
-value_order (Text a) (Int b) = Greater
-
-abbrev pub cell_order : Option Value → Option Value → Ordering
-cell_order = option_cmp value_order
 
 -- how two combinations stand by a column, by a key, and by the first key that tells them apart
 abbrev pub column_order : List (List (List Value)) → ColRef → List ℕ → List ℕ → Ordering

@@ -7,7 +7,7 @@ use Rattle.std.specs.Str.{bytes_eq}
 use Rattle.row_values.specs.declared.statement.ColRef.{ColRef}
 use Rattle.row_values.specs.declared.statement.Edge.{Edge}
 use Rattle.statement_meaning.specs.Combinations.{World, edges_hold}
-use Rattle.statement_meaning.specs.Sorting.{times}
+use Rattle.row_values.specs.Sorting.{times}
 
 -- the set of this place alone, of the places of two sets, and of all places of a statement
 abbrev pub single : ℕ → ℕ → Bool

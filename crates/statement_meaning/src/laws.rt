@@ -7,13 +7,15 @@ ghost use Rattle.row_values.specs.Statements.{Statement, IsSoundQuery, selectivi
 ghost use Rattle.row_values.specs.Values.{kind_of, value_cmp};
 ghost use Rattle.row_values.specs.declared.statement.OrderKey.{OrderKey as AnyKey};
 ghost use Rattle.row_values.specs.declared.values.Value.{Value as AnyValue};
-ghost use Rattle.statement_meaning.specs.Combinations.{World, kept_combinations, row_at, rows_at, row_numbers, world_of};
+ghost use Rattle.row_values.specs.RowNumbers.{row_numbers};
+ghost use Rattle.statement_meaning.specs.Combinations.{World, kept_combinations, row_at, rows_at, world_of};
 ghost use Rattle.statement_meaning.specs.Conditions.{row_passes};
 ghost use Rattle.statement_meaning.specs.FullOrder.{is_earlier};
 ghost use Rattle.statement_meaning.specs.Groups.{first_member, group_row};
-ghost use Rattle.statement_meaning.specs.Meaning.{group_keys, is_before, is_lower, is_same_group, meaning_of, shape_of, shown_row, value_order};
+ghost use Rattle.row_values.specs.Orders.{value_order};
+ghost use Rattle.statement_meaning.specs.Meaning.{group_keys, is_before, is_lower, is_same_group, meaning_of, shape_of, shown_row};
 ghost use Rattle.statement_meaning.specs.PartialCombinations.{AreApart, Fits, HasSoundEdges, Offers, OffersRows, Once, RowsOnce, all_places, either, joined, joined_rows, placed, single};
-ghost use Rattle.statement_meaning.specs.Sorting.{Rises, classes, in_order, runs};
+ghost use Rattle.row_values.specs.Sorting.{Rises, classes, in_order, runs};
 ghost use Rattle.statement_meaning.specs.Vectors.{vector_of};
 
 /// The kept combinations stand in lexicographic FROM order.

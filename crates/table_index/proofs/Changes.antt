@@ -12,7 +12,7 @@ use Rattle.std.proofs.lemmas.List.Elements.{All-from_get_or, filter-append}
 use Rattle.std.proofs.lemmas.List.Folds.{list_any_more, list_any_none}
 use Rattle.std.proofs.lemmas.List.Sorted.{ranks_by, sorted_far}
 use mir.Val.{bool_byte}
-use Rattle.statement_meaning.specs.Sorting.{heads}
+use Rattle.row_values.specs.Sorting.{heads}
 use Rattle.table_index.specs.Distinct.{distinct_count, is_new}
 
 -- an element behind a list is a head of its own where no element before equals it

@@ -10,10 +10,10 @@ use Rattle.std.proofs.lemmas.Option.{slice_get-get_or}
 use Rattle.row_values.specs.declared.values.Value.{Value}
 use Rattle.row_values.specs.declared.values.Value.TheVariants.{Int}
 use Rattle.csv_tables.specs.Tables.{AreNumbers, TableValue, cell_at, value_in}
-use Rattle.statement_meaning.specs.Combinations.{row_numbers}
-use Rattle.statement_meaning.specs.Sorting.{heads}
+use Rattle.row_values.specs.RowNumbers.{row_numbers}
+use Rattle.row_values.specs.Sorting.{heads}
 use Rattle.table_index.specs.Distinct.{cells_in, cells_of, distinct_count, distinct_in, is_same_cell}
-use Rattle.table_index.proofs.Orders.{cell_order_total}
+use Rattle.row_values.proofs.TotalOrders.{cell_order_total}
 use Rattle.table_index.proofs.SameHeads.{heads_of_permutation}
 
 -- what stands at each row number, in their order

@@ -14,16 +14,15 @@ use Rattle.row_values.specs.Values.{kind_of}
 use Rattle.row_values.specs.declared.values.Value.{Value}
 use Rattle.csv_tables.specs.Tables.{IsTable, TableValue, cell_at, column_kinds, value_in}
 use Rattle.csv_tables.proofs.PackedCells.{cell_fits, column_in_range}
-use Rattle.statement_meaning.specs.Combinations.{row_numbers}
-use Rattle.statement_meaning.specs.Conditions.{compares}
-use Rattle.statement_meaning.specs.Meaning.{cell_order}
-use Rattle.statement_meaning.proofs.Rising.{below}
-use Rattle.statement_meaning.proofs.Values.{same_kind}
+use Rattle.row_values.specs.RowNumbers.{row_numbers}
+use Rattle.row_values.specs.Orders.{compares, cell_order}
+use Rattle.row_values.proofs.Rising.{below}
+use Rattle.row_values.proofs.TotalOrders.{same_kind, cell_order_total}
 use Rattle.table_index.specs.Bounds.{FitsColumn, lies_below, lies_up_to}
 use Rattle.table_index.specs.Indexes.{AreOrdered, is_before}
 use Rattle.table_index.specs.declared.bounds.Bound.{Bound}
 use Rattle.table_index.specs.declared.bounds.Bound.TheVariants.{Free, Closed, Strict}
-use Rattle.table_index.proofs.Orders.{cell_order_total, first_not_less, rows_ranked}
+use Rattle.table_index.proofs.Orders.{first_not_less, rows_ranked}
 
 -- a cell that is there and of a value's kind
 record Stands (cell : Option Value) (value : Value) : Type 0 where

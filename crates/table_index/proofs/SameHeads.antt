@@ -6,7 +6,7 @@ use Rattle.std.specs.Cmp.{IsEquivalence}
 use Rattle.std.proofs.lemmas.Bool.{false≢true}
 use Rattle.std.proofs.lemmas.List.Sums.{count_by-le-length, length-filter}
 use Rattle.std.proofs.lemmas.List.Sorted.{sum_by-IsPermutation}
-use Rattle.statement_meaning.specs.Sorting.{heads}
+use Rattle.row_values.specs.Sorting.{heads}
 
 -- how many pass a test, element by element
 abbrev count : {X : Type 0} → (X → Bool) → List X → ℕ

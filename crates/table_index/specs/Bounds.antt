@@ -4,7 +4,7 @@ use Rattle.std.specs.Ordering.{is_lt, is_le, is_gt, is_ge}
 use Rattle.row_values.specs.Values.{kind_of}
 use Rattle.row_values.specs.declared.values.Value.{Value}
 use Rattle.csv_tables.specs.Tables.{TableValue, cell_at, column_kinds}
-use Rattle.statement_meaning.specs.Conditions.{compares}
+use Rattle.row_values.specs.Orders.{compares}
 use Rattle.table_index.specs.declared.bounds.Bound.{Bound}
 use Rattle.table_index.specs.declared.bounds.Bound.TheVariants.{Free, Closed, Strict}
 

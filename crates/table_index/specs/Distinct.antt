@@ -4,8 +4,8 @@ use Rattle.std.specs.List.{list_any}
 use Rattle.std.specs.Ordering.{is_eq}
 use Rattle.row_values.specs.declared.values.Value.{Value}
 use Rattle.csv_tables.specs.Tables.{TableValue, cell_at}
-use Rattle.statement_meaning.specs.Meaning.{cell_order}
-use Rattle.statement_meaning.specs.Sorting.{heads}
+use Rattle.row_values.specs.Orders.{cell_order}
+use Rattle.row_values.specs.Sorting.{heads}
 
 -- the cells of a column in row order
 abbrev pub cells_in : TableValue → ℕ → List (Option Value)

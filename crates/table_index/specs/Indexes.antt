@@ -4,8 +4,8 @@ use Rattle.std.specs.Option.{option_cmp}
 use Rattle.std.specs.Ordering.{int_cmp, is_lt, nat_cmp, ordering_then}
 use Rattle.std.specs.declared.cmp.Ordering.{Ordering}
 use Rattle.csv_tables.specs.Tables.{TableValue, cell_at}
-use Rattle.statement_meaning.specs.Combinations.{row_numbers}
-use Rattle.statement_meaning.specs.Meaning.{cell_order}
+use Rattle.row_values.specs.RowNumbers.{row_numbers}
+use Rattle.row_values.specs.Orders.{cell_order}
 
 -- what contracts see of an index
 pub record IndexValue : Type 0 where

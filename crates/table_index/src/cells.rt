@@ -4,7 +4,7 @@
 ghost use Rattle.std.specs.Prelude.{◌≡◌, ◌<◌, IfSome, Some, length};
 ghost use Rattle.std.specs.Option.{option_map};
 ghost use Rattle.csv_tables.specs.Tables.{AreNumbers, cell_at};
-ghost use Rattle.statement_meaning.specs.Conditions.{order_between};
+ghost use Rattle.row_values.specs.Orders.{order_between};
 ghost use Rattle.table_index.specs.Distinct.{is_same_cell};
 
 use csv_tables::Table;

@@ -5,7 +5,7 @@ ghost use Rattle.std.specs.Prelude.{◌≡◌, ◌<◌, ◌≤◌, All, IfOk, Is
 ghost use Rattle.std.specs.Ordering.{is_lt};
 ghost use Rattle.csv_tables.specs.Tables.{AreNumbers};
 ghost use Rattle.csv_tables.specs.declared.table.TheConstants.{ROW_LIMIT};
-ghost use Rattle.statement_meaning.specs.Combinations.{row_numbers};
+ghost use Rattle.row_values.specs.RowNumbers.{row_numbers};
 ghost use Rattle.table_index.specs.Indexes.{AreOrdered, number_order, row_order};
 
 use crate::cells::cell;

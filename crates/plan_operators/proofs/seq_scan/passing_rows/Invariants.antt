@@ -1,6 +1,6 @@
 use Rattle.std.proofs.Common.{◌≡◌, [], slice_index_or}
 use Rattle.std.specs.Prelude.{filter}
-use Rattle.statement_meaning.specs.Combinations.{row_numbers}
+use Rattle.row_values.specs.RowNumbers.{row_numbers}
 use Rattle.row_tests.specs.Ready.{all_hold}
 use Rattle.plan_operators.proofs.seq_scan.passing_rows.Given as goal
 

@@ -2,9 +2,10 @@ use Rattle.std.proofs.Common.{◌<◌, ◌-◌, arith, length}
 use Rattle.std.proofs.lemmas.List.{get_or-map, length-map}
 use Rattle.csv_tables.specs.Tables.{cell_at}
 use Rattle.table_index.specs.Distinct.{cells_of}
-use Rattle.statement_meaning.specs.Meaning.{cell_order}
+use Rattle.row_values.specs.Orders.{cell_order}
 use Rattle.table_index.proofs.Changes.{new_by_last}
-use Rattle.table_index.proofs.Orders.{cell_order_total, cells_rise}
+use Rattle.row_values.proofs.TotalOrders.{cell_order_total}
+use Rattle.table_index.proofs.Orders.{cells_rise}
 use Rattle.table_index.proofs.distinct.is_new_cell.Goals as goal
 
 pub returns-else-position-eq0 : goal.returns-else-position-eq0

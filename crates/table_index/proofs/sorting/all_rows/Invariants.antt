@@ -1,5 +1,5 @@
 use Rattle.std.proofs.Common.{◌≡◌}
-use Rattle.statement_meaning.specs.Combinations.{row_numbers}
+use Rattle.row_values.specs.RowNumbers.{row_numbers}
 use Rattle.table_index.proofs.sorting.all_rows.Given as goal
 
 abbrev pub invariant-loop-row : goal.invariant-loop-row

@@ -1,5 +1,5 @@
 use Rattle.std.proofs.Common.{◌≡◌, All, Some, map, slice_get}
-use Rattle.statement_meaning.specs.Combinations.{row_numbers}
+use Rattle.row_values.specs.RowNumbers.{row_numbers}
 use Rattle.table_index.proofs.sorting.numbered.Given as goal
 
 -- the rows so far stand beside their numbers

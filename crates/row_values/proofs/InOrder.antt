@@ -9,8 +9,8 @@ use Rattle.std.specs.declared.cmp.Ordering.TheVariants.{Less, Equal, Greater}
 use Rattle.std.proofs.lemmas.Bool.{false≢true}
 use Rattle.std.proofs.lemmas.List.Elements.{All-nil, All-cons, All-head, All-tail}
 use Rattle.std.proofs.lemmas.List.Sorted.{sorted_far, ranks_by}
-use Rattle.statement_meaning.specs.Sorting.{put_in, in_order, Rises, times}
-use Rattle.statement_meaning.proofs.Counting.{IsExact, HaveSame, times_all, times_head, times_rest, same_from_permutation}
+use Rattle.row_values.specs.Sorting.{put_in, in_order, Rises, times}
+use Rattle.row_values.proofs.Counting.{IsExact, HaveSame, times_all, times_head, times_rest, same_from_permutation}
 
 pub equal_of : (o : Ordering) → is_eq o ≡ true → o ≡ Equal
 equal_of Less h = absurd (false≢true h)

@@ -6,17 +6,17 @@ use Rattle.std.proofs.lemmas.List.Elements.{All-head, All-tail, All-cons, All-ni
 use Rattle.std.proofs.lemmas.List.Recursion.{is_sum_by}
 use Rattle.std.proofs.lemmas.List.Sorted.{sum_by-IsPermutation}
 use Rattle.std.proofs.lemmas.Slice.Eq.{bytes_eq-Decides}
-use Rattle.statement_meaning.specs.Combinations.{row_numbers}
-use Rattle.statement_meaning.specs.PartialCombinations.{is_same}
-use Rattle.statement_meaning.specs.Sorting.{times}
+use Rattle.row_values.specs.RowNumbers.{row_numbers}
+use Rattle.std.specs.Str.{bytes_eq}
+use Rattle.row_values.specs.Sorting.{times}
 
 -- a test that is equality
 pub record IsExact {X : Type 0} (same : X → X → Bool) : Type 0 where
   pub one : (a b : X) → same a b ≡ true → a ≡ b
   pub itself : (a : X) → same a a ≡ true
 
-pub exact_combinations : IsExact is_same
-exact_combinations = record { one = λ a b e. grind (arith, bytes_eq-Decides a b); itself = λ a. grind (arith, bytes_eq-Decides a a) }
+pub exact_lists : IsExact bytes_eq
+exact_lists = record { one = λ a b e. grind (arith, bytes_eq-Decides a b); itself = λ a. grind (arith, bytes_eq-Decides a a) }
 
 pub exact_numbers : IsExact nat_eq
 exact_numbers = record { one = λ a b e. eqb-true a b e; itself = λ a. eq-eqb a a refl }
