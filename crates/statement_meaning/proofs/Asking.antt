@@ -42,14 +42,14 @@ edge_asks_back world outer inner apart c d f g m number edge at r l =
     ∙ ap (λ (row : ℕ). world.agree edge (get_or d edge.left.place 0) row) (merged_first outer c d same edge.right.place l)) ∙ met
 
 -- the same of a combination and a row of the place that enters
-pub row_asks : (world : World) (outer : ℕ → Bool) (place : ℕ) → outer place ≡ false → place < world.wide → (c : List ℕ) → Fits world outer c → (row : ℕ) → edges_hold world (edges_between world outer (single place)) (set c place row) ≡ true → (number : ℕ) (edge : Edge) → slice_get world.edges number ≡ Some edge → outer edge.left.place ≡ true → edge.right.place ≡ place → world.agree edge (get_or c edge.left.place 0) row ≡ true
+pub row_asks : (world : World) (outer : ℕ → Bool) (place : ℕ) → outer place ≡ false → place < world.places → (c : List ℕ) → Fits world outer c → (row : ℕ) → edges_hold world (edges_between world outer (single place)) (set c place row) ≡ true → (number : ℕ) (edge : Edge) → slice_get world.edges number ≡ Some edge → outer edge.left.place ≡ true → edge.right.place ≡ place → world.agree edge (get_or c edge.left.place 0) row ≡ true
 row_asks world outer place out i c f row m number edge at l r =
     let met : edge_holds world edge (set c place row) ≡ true = edge_of_filter world (is_between outer (single place)) world.edges (set c place row) m number edge at (rw (l, eq-eqb place edge.right.place (sym r)) refl) in
     let old : get_or (set c place row) edge.left.place 0 ≡ get_or c edge.left.place 0 = get_or-set_other c place edge.left.place row 0 (λ q. false≢true (sym out ∙ (ap outer (sym q) ∙ l))) in
     let new : get_or (set c place row) edge.right.place 0 ≡ row = ap (λ (n : ℕ). get_or (set c place row) n 0) r ∙ get_or-set_same c place row 0 (rw f.long i) in
     sym (ap (λ (x : ℕ). world.agree edge x (get_or (set c place row) edge.right.place 0)) old ∙ ap (λ (x : ℕ). world.agree edge (get_or c edge.left.place 0) x) new) ∙ met
 
-pub row_asks_back : (world : World) (outer : ℕ → Bool) (place : ℕ) → outer place ≡ false → place < world.wide → (c : List ℕ) → Fits world outer c → (row : ℕ) → edges_hold world (edges_between world outer (single place)) (set c place row) ≡ true → (number : ℕ) (edge : Edge) → slice_get world.edges number ≡ Some edge → edge.left.place ≡ place → outer edge.right.place ≡ true → world.agree edge row (get_or c edge.right.place 0) ≡ true
+pub row_asks_back : (world : World) (outer : ℕ → Bool) (place : ℕ) → outer place ≡ false → place < world.places → (c : List ℕ) → Fits world outer c → (row : ℕ) → edges_hold world (edges_between world outer (single place)) (set c place row) ≡ true → (number : ℕ) (edge : Edge) → slice_get world.edges number ≡ Some edge → edge.left.place ≡ place → outer edge.right.place ≡ true → world.agree edge row (get_or c edge.right.place 0) ≡ true
 row_asks_back world outer place out i c f row m number edge at r l =
     let met : edge_holds world edge (set c place row) ≡ true = edge_of_filter world (is_between outer (single place)) world.edges (set c place row) m number edge at (rw (l, eq-eqb place edge.left.place (sym r)) (or_right (outer edge.left.place && single place edge.right.place) true refl)) in
     let old : get_or (set c place row) edge.right.place 0 ≡ get_or c edge.right.place 0 = get_or-set_other c place edge.right.place row 0 (λ q. false≢true (sym out ∙ (ap outer (sym q) ∙ l))) in

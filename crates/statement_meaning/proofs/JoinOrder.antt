@@ -113,7 +113,7 @@ row_is_before tables at a b = is_lt (cell_order (slice_get (row_at tables at.pla
 abbrev pub by_column : ColRef → List OrderKey
 by_column at = record { at = at; descending = false } ∷ []
 
-pub placed_rises : (world : World) (tables : List (List (List Value))) (at : ColRef) → at.place < world.wide → (rows : List ℕ) → Rises (row_is_before tables at) rows → Rises (is_before tables (by_column at)) (map (placed world at.place) rows)
+pub placed_rises : (world : World) (tables : List (List (List Value))) (at : ColRef) → at.place < world.places → (rows : List ℕ) → Rises (row_is_before tables at) rows → Rises (is_before tables (by_column at)) (map (placed world at.place) rows)
 placed_rises world tables at i rows r = rises_map (is_before tables (by_column at)) (placed world at.place) rows (rises_weaker (row_is_before tables at) (λ a b. is_before tables (by_column at) (placed world at.place a) (placed world at.place b)) (λ a b k. stands a b ∙ k) rows r)
   where
     cell : (a : ℕ) → cell_of tables (placed world at.place a) at ≡ slice_get (row_at tables at.place a) at.column

@@ -37,11 +37,11 @@ sound_edges q tables args s = record {
 }
 
 -- Over all places every edge is inside.
-all_inside : (world : World) (es : List Edge) → All (λ edge. (edge.left.place < world.wide) × (edge.right.place < world.wide)) es → filter (is_inside (all_places world)) es ≡ es
+all_inside : (world : World) (es : List Edge) → All (λ edge. (edge.left.place < world.places) × (edge.right.place < world.places)) es → filter (is_inside (all_places world)) es ≡ es
 all_inside world [] a = refl
 all_inside world (edge ∷ es) a =
-    let here = All-head (λ edge. (edge.left.place < world.wide) × (edge.right.place < world.wide)) edge es a in
-    rw (lt-ltb edge.left.place world.wide here.0, lt-ltb edge.right.place world.wide here.1, all_inside world es (All-tail (λ edge. (edge.left.place < world.wide) × (edge.right.place < world.wide)) edge es a)) refl
+    let here = All-head (λ edge. (edge.left.place < world.places) × (edge.right.place < world.places)) edge es a in
+    rw (lt-ltb edge.left.place world.places here.0, lt-ltb edge.right.place world.places here.1, all_inside world es (All-tail (λ edge. (edge.left.place < world.places) × (edge.right.place < world.places)) edge es a)) refl
 
 -- Combinations within the sizes, whose rows pass.
 
@@ -92,23 +92,23 @@ box_times (n ∷ ns) (r ∷ rs) b = fronts_times r rs (combinations ns) (box_tim
 pub kept_once : (world : World) → HasSoundEdges world → Once world (all_places world) (kept world)
 kept_once world sound = record {
   only = λ k d l.
-      let passed = filter_passes (keeps world) (combinations (sizes_from world 0 world.wide)) k d l in
-      let box = All-filter (keeps world) (InBox (sizes_from world 0 world.wide)) (combinations (sizes_from world 0 world.wide)) (all_box (sizes_from world 0 world.wide)) k d l in
+      let passed = filter_passes (keeps world) (combinations (sizes_from world 0 world.places)) k d l in
+      let box = All-filter (keeps world) (InBox (sizes_from world 0 world.places)) (combinations (sizes_from world 0 world.places)) (all_box (sizes_from world 0 world.places)) k d l in
       fits (get_or (kept world) k d) box passed;
   once = λ c f.
-      let good = good_box world world.wide 0 c f.long (λ i h. rw zero-add (f.within i (lt-ltb i world.wide h))) in
+      let good = good_box world world.places 0 c f.long (λ i h. rw zero-add (f.within i (lt-ltb i world.places h))) in
       let edges : edges_hold world world.edges c ≡ true = ap (λ (es : List Edge). edges_hold world es c) (sym (all_inside world world.edges sound.there)) ∙ f.met in
-      times-filter is_same exact_lists (keeps world) c (rw (good.1, edges) refl) (combinations (sizes_from world 0 world.wide)) ∙ box_times (sizes_from world 0 world.wide) c good.0;
+      times-filter is_same exact_lists (keeps world) c (rw (good.1, edges) refl) (combinations (sizes_from world 0 world.places)) ∙ box_times (sizes_from world 0 world.places) c good.0;
 }
   where
-    fits : (c : List ℕ) → InBox (sizes_from world 0 world.wide) c → keeps world c ≡ true → Fits world (all_places world) c
+    fits : (c : List ℕ) → InBox (sizes_from world 0 world.places) c → keeps world c ≡ true → Fits world (all_places world) c
     fits c box passed =
         let both = and_parts (rows_pass world 0 c) (edges_hold world world.edges c) passed in
-        let good = box_good world world.wide 0 c box both.0 in
+        let good = box_good world world.places 0 c box both.0 in
         record {
           long = good.0;
-          within = λ place h. rw zero-add at (good.1 place (ltb-true place world.wide h));
-          zeros = λ place h. get_or_past c place 0 (omega (arith, good.0, ltb-false place world.wide h));
+          within = λ place h. rw zero-add at (good.1 place (ltb-true place world.places h));
+          zeros = λ place h. get_or_past c place 0 (omega (arith, good.0, ltb-false place world.places h));
           met = ap (λ (es : List Edge). edges_hold world es c) (all_inside world world.edges sound.there) ∙ both.1;
         }
 

@@ -51,7 +51,7 @@ combinations_rise (n ∷ ns) = fronts_all_rise n ns (combinations ns) (combinati
 
 -- the kept combinations are in lexicographic order
 pub kept_rises : (world : World) → Rises is_lower (kept world)
-kept_rises world = filter_rises is_lower (keeps world) (combinations (sizes_from world 0 world.wide)) (combinations_rise (sizes_from world 0 world.wide))
+kept_rises world = filter_rises is_lower (keeps world) (combinations (sizes_from world 0 world.places)) (combinations_rise (sizes_from world 0 world.places))
 
 -- so a sort of them by row numbers changes nothing
 pub in_order-kept : (world : World) → in_order is_lower (kept world) ≡ kept world

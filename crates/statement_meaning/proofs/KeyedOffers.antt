@@ -86,7 +86,7 @@ equal_offered q tables args outer inner apart number edge at h c ds f o =
     (λ d g m. ends_equal q tables args outer inner apart number edge at h c d f g m)
 
 -- One place: where a combination and a row meet the edges by which the place enters, their cells are equal.
-pub row_ends_equal : (q : Statement) (tables : List (List (List Value))) (args : List Value) (outer : ℕ → Bool) (place : ℕ) → outer place ≡ false → place < (world_of q tables args).wide → (number : ℕ) (edge : Edge) → slice_get q.edges number ≡ Some edge → is_between outer (single place) edge ≡ true → (c : List ℕ) (row : ℕ) → Fits (world_of q tables args) outer c → edges_hold (world_of q tables args) (edges_between (world_of q tables args) outer (single place)) (set c place row) ≡ true → compares is_eq (cell_of tables c (end_in outer edge)) (slice_get (row_at tables place row) (end_in (single place) edge).column) ≡ true
+pub row_ends_equal : (q : Statement) (tables : List (List (List Value))) (args : List Value) (outer : ℕ → Bool) (place : ℕ) → outer place ≡ false → place < (world_of q tables args).places → (number : ℕ) (edge : Edge) → slice_get q.edges number ≡ Some edge → is_between outer (single place) edge ≡ true → (c : List ℕ) (row : ℕ) → Fits (world_of q tables args) outer c → edges_hold (world_of q tables args) (edges_between (world_of q tables args) outer (single place)) (set c place row) ≡ true → compares is_eq (cell_of tables c (end_in outer edge)) (slice_get (row_at tables place row) (end_in (single place) edge).column) ≡ true
 row_ends_equal q tables args outer place out i number edge at h c row f m = by_way (outer edge.left.place) refl
   where
     at_ends : (mine other : ColRef) → Ends outer (single place) edge mine other → compares is_eq (cell_of tables c mine) (slice_get (row_at tables place row) other.column) ≡ true → compares is_eq (cell_of tables c (end_in outer edge)) (slice_get (row_at tables place row) (end_in (single place) edge).column) ≡ true
@@ -103,13 +103,13 @@ row_ends_equal q tables args outer place out i number edge at h c row f m = by_w
         at_ends edge.right edge.left e (ap (λ (p : ℕ). compares is_eq (cell_of tables c edge.right) (slice_get (row_at tables p row) edge.left.column)) there ∙ equal_back (slice_get (row_at tables edge.left.place row) edge.left.column) (cell_of tables c edge.right) (row_asks_back (world_of q tables args) outer place out i c f row m number edge at (sym there) e.in_outer))
 
 -- So of its rows in any order those with an equal cell may be offered that meet the predicates: the index probe,
-pub equal_rows_offered : (q : Statement) (tables : List (List (List Value))) (args : List Value) (outer : ℕ → Bool) (place : ℕ) → outer place ≡ false → place < (world_of q tables args).wide → (number : ℕ) (edge : Edge) → slice_get q.edges number ≡ Some edge → is_between outer (single place) edge ≡ true → (c rows : List ℕ) → Fits (world_of q tables args) outer c → HaveSame nat_eq (row_numbers ((world_of q tables args).size place)) rows → OffersRows (world_of q tables args) outer place c (filter ((world_of q tables args).passes place) (filter (λ row. compares is_eq (cell_of tables c (end_in outer edge)) (slice_get (row_at tables place row) (end_in (single place) edge).column)) rows))
+pub equal_rows_offered : (q : Statement) (tables : List (List (List Value))) (args : List Value) (outer : ℕ → Bool) (place : ℕ) → outer place ≡ false → place < (world_of q tables args).places → (number : ℕ) (edge : Edge) → slice_get q.edges number ≡ Some edge → is_between outer (single place) edge ≡ true → (c rows : List ℕ) → Fits (world_of q tables args) outer c → HaveSame nat_eq (row_numbers ((world_of q tables args).size place)) rows → OffersRows (world_of q tables args) outer place c (filter ((world_of q tables args).passes place) (filter (λ row. compares is_eq (cell_of tables c (end_in outer edge)) (slice_get (row_at tables place row) (end_in (single place) edge).column)) rows))
 equal_rows_offered q tables args outer place out i number edge at h c rows f s =
     tested_rows_offered (world_of q tables args) outer place c rows (λ row. compares is_eq (cell_of tables c (end_in outer edge)) (slice_get (row_at tables place row) (end_in (single place) edge).column)) s
     (λ row k p m. row_ends_equal q tables args outer place out i number edge at h c row f m)
 
 -- and of rows that meet the predicates those with an equal cell.
-pub equal_passing_rows_offered : (q : Statement) (tables : List (List (List Value))) (args : List Value) (outer : ℕ → Bool) (place : ℕ) → outer place ≡ false → place < (world_of q tables args).wide → (number : ℕ) (edge : Edge) → slice_get q.edges number ≡ Some edge → is_between outer (single place) edge ≡ true → (c rows : List ℕ) → Fits (world_of q tables args) outer c → RowsOnce (world_of q tables args) place rows → OffersRows (world_of q tables args) outer place c (filter (λ row. compares is_eq (cell_of tables c (end_in outer edge)) (slice_get (row_at tables place row) (end_in (single place) edge).column)) rows)
+pub equal_passing_rows_offered : (q : Statement) (tables : List (List (List Value))) (args : List Value) (outer : ℕ → Bool) (place : ℕ) → outer place ≡ false → place < (world_of q tables args).places → (number : ℕ) (edge : Edge) → slice_get q.edges number ≡ Some edge → is_between outer (single place) edge ≡ true → (c rows : List ℕ) → Fits (world_of q tables args) outer c → RowsOnce (world_of q tables args) place rows → OffersRows (world_of q tables args) outer place c (filter (λ row. compares is_eq (cell_of tables c (end_in outer edge)) (slice_get (row_at tables place row) (end_in (single place) edge).column)) rows)
 equal_passing_rows_offered q tables args outer place out i number edge at h c rows f o =
     passing_rows_offered (world_of q tables args) outer place c rows (λ row. compares is_eq (cell_of tables c (end_in outer edge)) (slice_get (row_at tables place row) (end_in (single place) edge).column)) o
     (λ row k p m. row_ends_equal q tables args outer place out i number edge at h c row f m)

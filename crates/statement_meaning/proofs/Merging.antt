@@ -117,11 +117,11 @@ zero_at n i = by_range (cases_lt i n)
     by_range (inl l) = get_or-replicate n i 0 0 l
     by_range (inr g) = let z : ℕ = 0 in get_or_past (replicate n z) i z (rw (length-replicate n z) g)
 
-pub length-placed : (world : World) (place row : ℕ) → length (placed world place row) ≡ world.wide
-length-placed world place row = let z : ℕ = 0 in length-set (replicate world.wide z) place row ∙ length-replicate world.wide z
+pub length-placed : (world : World) (place row : ℕ) → length (placed world place row) ≡ world.places
+length-placed world place row = let z : ℕ = 0 in length-set (replicate world.places z) place row ∙ length-replicate world.places z
 
-pub placed_there : (world : World) (place row : ℕ) → place < world.wide → get_or (placed world place row) place 0 ≡ row
-placed_there world place row i = let z : ℕ = 0 in get_or-set_same (replicate world.wide z) place row 0 (rw (length-replicate world.wide z) i)
+pub placed_there : (world : World) (place row : ℕ) → place < world.places → get_or (placed world place row) place 0 ≡ row
+placed_there world place row i = let z : ℕ = 0 in get_or-set_same (replicate world.places z) place row 0 (rw (length-replicate world.places z) i)
 
 pub placed_elsewhere : (world : World) (place row other : ℕ) → single place other ≡ false → get_or (placed world place row) other 0 ≡ 0
-placed_elsewhere world place row other h = let z : ℕ = 0 in get_or-set_other (replicate world.wide z) place other row 0 (λ e. false≢true (sym h ∙ eq-eqb place other (sym e))) ∙ zero_at world.wide other
+placed_elsewhere world place row other h = let z : ℕ = 0 in get_or-set_other (replicate world.places z) place other row 0 (λ e. false≢true (sym h ∙ eq-eqb place other (sym e))) ∙ zero_at world.places other

@@ -78,7 +78,7 @@ keeps_one world e row = ap (λ (edges : List Edge). (world.passes 0 row && true)
     and_true true = refl
     and_true false = refl
 
-kept_one : (world : World) → world.edges ≡ [] → world.wide ≡ 1 → kept world ≡ map (λ row. row ∷ []) (filter (world.passes 0) (row_numbers (world.size 0)))
+kept_one : (world : World) → world.edges ≡ [] → world.places ≡ 1 → kept world ≡ map (λ row. row ∷ []) (filter (world.passes 0) (row_numbers (world.size 0)))
 kept_one world e w =
     ap (λ (count : ℕ). filter (keeps world) (combinations (sizes_from world 0 count))) w
     ∙ (singles (keeps world) (row_numbers (world.size 0))

@@ -106,5 +106,5 @@ once_more world a t h cs o = once_places world (either (has_place a) (single t))
 pub once_both : (world : World) (a b : ℕ) → bit_and a b ≡ 0 → (cs : List (List ℕ)) → Once world (either (has_place a) (has_place b)) cs → Once world (has_place (a + b)) cs
 once_both world a b h cs o = once_places world (either (has_place a) (has_place b)) (has_place (a + b)) (λ place. sym (has_place_sum a b (disjoint_apart a b h) place)) cs o
 
-pub once_whole : (world : World) (cs : List (List ℕ)) → Once world (has_place (2 ^ world.wide - 1)) cs → Once world (all_places world) cs
-once_whole world cs o = once_places world (has_place (2 ^ world.wide - 1)) (all_places world) (has_place_below world.wide) cs o
+pub once_whole : (world : World) (cs : List (List ℕ)) → Once world (has_place (2 ^ world.places - 1)) cs → Once world (all_places world) cs
+once_whole world cs o = once_places world (has_place (2 ^ world.places - 1)) (all_places world) (has_place_below world.places) cs o

@@ -15,7 +15,7 @@ combinations (count ∷ counts) = flat_map (λ row. map (λ rest. row ∷ rest) 
 -- What a statement and its arguments ask of its tables, as plain facts: how many rows each place has, which of them
 -- meet the predicates on it, and which two rows meet an edge. Operators are proved against these.
 pub record World : Type 0 where
-  pub wide : ℕ
+  pub places : ℕ
   pub size : ℕ → ℕ
   pub passes : ℕ → ℕ → Bool
   pub edges : List Edge
@@ -46,7 +46,7 @@ keeps world c = rows_pass world 0 c && edges_hold world world.edges c
 
 -- the combinations that meet every predicate and edge, in lexicographic order
 abbrev pub kept : World → List (List ℕ)
-kept world = filter (keeps world) (combinations (sizes_from world 0 world.wide))
+kept world = filter (keeps world) (combinations (sizes_from world 0 world.places))
 
 -- the rows of a place
 abbrev pub rows_at : List (List (List Value)) → ℕ → List (List Value)
@@ -59,7 +59,7 @@ row_at tables place row = slice_index_or (rows_at tables place) row []
 -- a statement with arguments over the tables of its places
 abbrev pub world_of : Statement → List (List (List Value)) → List Value → World
 world_of q tables args = record {
-  wide = length q.places;
+  places = length q.places;
   size = λ place. length (rows_at tables place);
   passes = λ place row. row_passes args q.preds place (row_at tables place row);
   edges = q.edges;

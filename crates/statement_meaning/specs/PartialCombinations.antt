@@ -17,7 +17,7 @@ abbrev pub either : (ℕ → Bool) → (ℕ → Bool) → ℕ → Bool
 either outer inner place = outer place || inner place
 
 abbrev pub all_places : World → ℕ → Bool
-all_places world place = nat_lt place world.wide
+all_places world place = nat_lt place world.places
 
 -- no place is in both sets
 abbrev pub AreApart : (ℕ → Bool) → (ℕ → Bool) → Type 0
@@ -25,7 +25,7 @@ AreApart outer inner = (place : ℕ) → outer place ≡ true → inner place �
 
 -- each edge joins two different places of the statement
 pub record HasSoundEdges (world : World) : Type 0 where
-  pub there : All (λ edge. (edge.left.place < world.wide) × (edge.right.place < world.wide)) world.edges
+  pub there : All (λ edge. (edge.left.place < world.places) × (edge.right.place < world.places)) world.edges
   pub two_places : All (λ edge. (edge.left.place == edge.right.place) ≡ false) world.edges
 
 -- whether an edge has both its places in a set, and whether it joins a place of one set to one of the other
@@ -48,7 +48,7 @@ edges_between world outer inner = filter (is_between outer inner) world.edges
 -- A combination over these places: each has a row that meets the predicates on it, every edge inside is met, and 0
 -- stands at the other places.
 pub record Fits (world : World) (places : ℕ → Bool) (c : List ℕ) : Type 0 where
-  pub long : length c ≡ world.wide
+  pub long : length c ≡ world.places
   pub within : (place : ℕ) → places place ≡ true → (slice_index_or c place 0 < world.size place) × (world.passes place (slice_index_or c place 0) ≡ true)
   pub zeros : (place : ℕ) → places place ≡ false → slice_index_or c place 0 ≡ 0
   pub met : edges_hold world (edges_inside world places) c ≡ true
@@ -87,7 +87,7 @@ pub record Offers (world : World) (outer : ℕ → Bool) (inner : ℕ → Bool) 
 
 -- the combination over one place that has this row there
 abbrev pub placed : World → ℕ → ℕ → List ℕ
-placed world place row = set (replicate world.wide 0) place row
+placed world place row = set (replicate world.places 0) place row
 
 abbrev pub joined_rows : World → (ℕ → Bool) → ℕ → (List ℕ → List ℕ) → List (List ℕ) → List (List ℕ)
 joined_rows world outer place offered cs =

@@ -60,7 +60,7 @@ pub fn each_kept_once()
 /// An access path of a place, which gives each row that meets the predicates once, gives each combination over that
 /// place once.
 pub fn access_gives_each_once()
-    ensures { (world : World) (place : ℕ) (rows : List ℕ) → HasSoundEdges world → place < world.wide → RowsOnce world place rows → Once world (single place) (map (placed world place) rows) }
+    ensures { (world : World) (place : ℕ) (rows : List ℕ) → HasSoundEdges world → place < world.places → RowsOnce world place rows → Once world (single place) (map (placed world place) rows) }
 {}
 
 /// A join of two sides with no place in common gives each combination over both once, where the outer side has each
@@ -71,7 +71,7 @@ pub fn join_gives_each_once()
 
 /// So does a join by one place, where each combination is offered the rows that it may be joined with.
 pub fn join_by_place_gives_each_once()
-    ensures { (world : World) (outer : ℕ → Bool) (place : ℕ) (offered : List ℕ → List ℕ) (cs : List (List ℕ)) → HasSoundEdges world → place < world.wide → outer place ≡ false → Once world outer cs → ((c : List ℕ) → Fits world outer c → OffersRows world outer place c (offered c)) → Once world (either outer (single place)) (joined_rows world outer place offered cs) }
+    ensures { (world : World) (outer : ℕ → Bool) (place : ℕ) (offered : List ℕ → List ℕ) (cs : List (List ℕ)) → HasSoundEdges world → place < world.places → outer place ≡ false → Once world outer cs → ((c : List ℕ) → Fits world outer c → OffersRows world outer place c (offered c)) → Once world (either outer (single place)) (joined_rows world outer place offered cs) }
 {}
 
 /// A sort by any order keeps each combination once.
