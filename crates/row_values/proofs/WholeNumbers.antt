@@ -1,48 +1,33 @@
--- What std's `parse` gives is the whole number that the text spells.
-use Rattle.std.proofs.Common.{ℕ, ℤ, ◌≡◌, ◌≢◌, ◌<◌, ◌≤◌, ◌^◌, ◌==◌, ◌&&◌, nat_lt, nat_le, List, [], ◌∷◌, length, get_or, Bool, true, false, Result, Ok, Err, Some, None, refl, ap, arith, rules, if◌then◌else◌}
-use Rattle.std.specs.Int.{w64}
-use Rattle.std.specs.Result.{result_ok, OkIff}
+-- The number that digits spell, digit by digit.
+use Rattle.std.proofs.Common.{◌≡◌, ◌<◌, ◌≤◌, ◌+◌, ◌-◌, ◌*◌, ◌&&◌, ℕ, nat_lt, nat_eq, Bool, true, false, List, [], ◌∷◌, if◌then◌else◌, Option, None, Some, length, refl, arith}
 use Rattle.std.specs.Str.{all_ascii_digits}
-use Rattle.std.specs.Str.Parse.{ParsesSigned}
 use Rattle.std.proofs.lemmas.Bool.Decides.{nat_tests}
-use Rattle.std.proofs.lemmas.Str.Parse.{IsNumeralModel, numerals_by_fold, parse_signed_minus, parse_signed_plain}
-use Rattle.row_values.specs.Numbers.{read_on, are_digits, whole_number_of, minus_number_of, plain_number_of}
+use Rattle.row_values.specs.Numbers.{are_digits, read_on}
 
-own : IsNumeralModel (λ ds. all_ascii_digits ds ≡ true) (read_on 0)
-own = numerals_by_fold _ (search rules) read_on (search rules)
+-- more digits never make a number less
+read_above : (n : ℕ) (digits : List ℕ) → n ≤ read_on n digits
+read_above n [] = omega arith
+read_above n (digit ∷ digits) = let above = read_above (n * 10 + (digit - 48)) digits in omega arith
 
--- a result that is there exactly where a fact holds, by a test of the fact
-by_test : {E : Type 0} (r : Result ℤ E) (P : Type 0) (v : ℤ) (test : Bool) → OkIff r P v → (test ≡ true → P) → (P → test ≡ true) → result_ok r ≡ (if test then Some v else None)
-by_test (Ok x) P v true h to from = ap Some h.1
-by_test (Ok x) P v false h to from = let e : false ≡ true = from h.0 in cc
-by_test (Err e) P v true h to from = absurd (h (to refl))
-by_test (Err e) P v false h to from = refl
+abbrev bounded : List ℕ → ℕ → Option ℕ
+bounded digits limit = if are_digits digits && nat_lt (read_on 0 digits) limit then Some (read_on 0 digits) else None
 
--- the tests of digits tell
-plain_to : (ds : List ℕ) → (are_digits ds && nat_lt (read_on 0 ds) (2 ^ 63)) ≡ true → (all_ascii_digits ds ≡ true) × (0 < length ds) × (read_on 0 ds < 2 ^ 63)
-plain_to ds h = grind (arith, nat_tests)
+none_above : (b : Bool) (value limit : ℕ) → limit ≤ value → None ≡ (if b && nat_lt value limit then Some value else None)
+none_above b value limit h = grind (arith, nat_tests)
 
-plain_from : (ds : List ℕ) → (all_ascii_digits ds ≡ true) × (0 < length ds) × (read_on 0 ds < 2 ^ 63) → (are_digits ds && nat_lt (read_on 0 ds) (2 ^ 63)) ≡ true
-plain_from ds h = grind (arith, nat_tests)
+some_below : (b : Bool) (value limit : ℕ) → b ≡ true → value < limit → Some value ≡ (if b && nat_lt value limit then Some value else None)
+some_below b value limit e h = grind (arith, nat_tests)
 
-minus_to : (ds : List ℕ) → (are_digits ds && nat_le (read_on 0 ds) (2 ^ 63)) ≡ true → (all_ascii_digits ds ≡ true) × (0 < length ds) × (read_on 0 ds ≤ 2 ^ 63)
-minus_to ds h = grind (arith, nat_tests)
+-- a number that reaches the limit already stays there
+pub passes : (value limit digit : ℕ) (digits left : List ℕ) → read_on value (digit ∷ left) ≡ read_on 0 digits
+    → limit ≤ value * 10 + (digit - 48) → None ≡ bounded digits limit
+passes value limit digit digits left e h =
+    let above = read_above (value * 10 + (digit - 48)) left in
+    none_above (are_digits digits) (read_on 0 digits) limit (omega arith)
 
-minus_from : (ds : List ℕ) → (all_ascii_digits ds ≡ true) × (0 < length ds) × (read_on 0 ds ≤ 2 ^ 63) → (are_digits ds && nat_le (read_on 0 ds) (2 ^ 63)) ≡ true
-minus_from ds h = grind (arith, nat_tests)
-
-plain_parsed : {E : Type 0} (text : List ℕ) (r : Result ℤ E) → get_or text 0 0 ≢ 43 → get_or text 0 0 ≢ 45 → ParsesSigned w64 10 text r → result_ok r ≡ plain_number_of text
-plain_parsed text r p m h = by_test r _ _ _ (parse_signed_plain own w64 text r h p m) (plain_to text) (plain_from text)
-
-minus_parsed : {E : Type 0} (rest : List ℕ) (r : Result ℤ E) → ParsesSigned w64 10 (45 ∷ rest) r → result_ok r ≡ minus_number_of rest
-minus_parsed rest r h = by_test r _ _ _ (parse_signed_minus own w64 (45 ∷ rest) r h refl) (minus_to rest) (minus_from rest)
-
-split : {E : Type 0} (first : ℕ) (rest : List ℕ) (r : Result ℤ E) (is_minus : Bool) → (is_minus ≡ true → first ≡ 45) → (is_minus ≡ false → first ≢ 45) → first ≢ 43 → ParsesSigned w64 10 (first ∷ rest) r →
-    result_ok r ≡ (if is_minus then minus_number_of rest else plain_number_of (first ∷ rest))
-split first rest r true minus other plus h = minus_parsed rest r (rw (minus refl) at h)
-split first rest r false minus other plus h = plain_parsed (first ∷ rest) r plus (other refl) h
-
--- by what `parse` says of a text without a plus
-pub parsed : {E : Type 0} (text : List ℕ) (r : Result ℤ E) → ((rest : List ℕ) → text ≢ 43 ∷ rest) → ParsesSigned w64 10 text r → result_ok r ≡ whole_number_of text
-parsed [] r p h = plain_parsed [] r (λ e. cc) (λ e. cc) h
-parsed (first ∷ rest) r p h = split first rest r (first == 45) (λ e. grind (arith, nat_tests)) (λ e. grind (arith, nat_tests)) (λ e. p rest (ap (λ (x : ℕ). x ∷ rest) e)) h
+-- all digits are read
+pub reads : (value limit : ℕ) (digits : List ℕ) → value ≡ read_on 0 digits → all_ascii_digits digits ≡ true
+    → nat_eq (length digits) 0 ≡ false → value < limit → Some value ≡ bounded digits limit
+reads value limit digits e d n h =
+    let spelled : are_digits digits ≡ true = rw (n, d) refl in
+    rw (← e) (some_below (are_digits digits) value limit spelled h)

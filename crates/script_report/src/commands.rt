@@ -120,7 +120,7 @@ fn count_in(most: u64, text: &str) -> Option<u64>
     if text.starts_with('0') {
         return None;
     }
-    match whole_number(text) {
+    match whole_number(text.as_bytes()) {
         Some(number) => counted(most, number),
         None => None,
     }

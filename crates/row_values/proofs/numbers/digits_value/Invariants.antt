@@ -1,0 +1,12 @@
+use Rattle.std.proofs.Common.{◌≡◌, ◌<◌, ◌^◌, drop}
+use Rattle.std.specs.Str.{all_ascii_digits}
+use Rattle.row_values.specs.Numbers.{read_on}
+use Rattle.row_values.proofs.numbers.digits_value.Given as goal
+
+-- the digits that are left decide
+abbrev pub invariant-loop-digit : goal.invariant-loop-digit
+invariant-loop-digit l = record {
+  value : read_on l.value (drop l.digit-index l.digits) ≡ read_on 0 l.digits;
+  digits : all_ascii_digits (drop l.digit-index l.digits) ≡ all_ascii_digits l.digits;
+  small : l.value < 2 ^ 64;
+}
