@@ -2,7 +2,8 @@
 use Rattle.std.proofs.Common.{◌≡◌, refl, ℕ, zero, suc, List, [], ◌∷◌, get_or, None, Some}
 use Rattle.csv.specs.Records.{field_at}
 
-pub field_there : (fields : List (List ℕ)) (column : ℕ) (text : List ℕ) → Some text ≡ field_at fields column → text ≡ get_or fields column []
+pub field_there : (fields : List (List ℕ)) (column : ℕ) (text : List ℕ) → Some text ≡ field_at fields column
+    → text ≡ get_or fields column []
 unfolding field_at
 field_there [] column text e = cc
 field_there (field ∷ fields) zero text e = cc

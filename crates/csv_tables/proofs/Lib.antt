@@ -1,4 +1,3 @@
-pub mod Decimals
 pub mod Fields
 pub mod Names
 pub mod PackedCells

@@ -9,17 +9,21 @@ use Rattle.csv.specs.declared.parser.State.TheVariants as st
 use Rattle.csv.specs.declared.reader.Reader.{Reader}
 use Rattle.csv_tables.specs.Reading.{IsBetween, bytes_left, records_in}
 
-in_field_ends : (c : ℕ) → is_end (in_field default_config c).1 ≡ true → ends_at_end (in_field default_config c).0 ≡ false
+in_field_ends : (c : ℕ) → is_end (in_field default_config c).1 ≡ true
+    → ends_at_end (in_field default_config c).0 ≡ false
 in_field_ends c h = search rules
 
-start_field_ends : (c : ℕ) → is_end (start_field default_config c).1 ≡ true → ends_at_end (start_field default_config c).0 ≡ false
+start_field_ends : (c : ℕ) → is_end (start_field default_config c).1 ≡ true
+    → ends_at_end (start_field default_config c).0 ≡ false
 start_field_ends c h = search (rules, in_field_ends)
 
-start_record_ends : (c : ℕ) → is_end (start_record default_config c).1 ≡ true → ends_at_end (start_record default_config c).0 ≡ false
+start_record_ends : (c : ℕ) → is_end (start_record default_config c).1 ≡ true
+    → ends_at_end (start_record default_config c).0 ≡ false
 start_record_ends c h = search (rules, start_field_ends)
 
 -- a byte that ends a record leaves the machine between two records
-step_ends : (s : State) (c : ℕ) → is_end (step default_config s c).1 ≡ true → ends_at_end (step default_config s c).0 ≡ false
+step_ends : (s : State) (c : ℕ) → is_end (step default_config s c).1 ≡ true
+    → ends_at_end (step default_config s c).0 ≡ false
 step_ends st.StartRecord c h = start_record_ends c h
 step_ends st.StartField c h = start_field_ends c h
 step_ends st.InField c h = in_field_ends c h
@@ -38,7 +42,8 @@ pub record Shrinks (s : State) (bytes : List ℕ) (read : Read) : Type 0 where
 same_read : (a b : Read) → Some a ≡ Some b → a ≡ b
 same_read a b e = cc
 
-shrinks_at_end : (s : State) → ends_at_end s ≡ true → (fields : List (List ℕ)) → Shrinks s [] (fields, st.StartRecord, [])
+shrinks_at_end : (s : State) → ends_at_end s ≡ true → (fields : List (List ℕ))
+    → Shrinks s [] (fields, st.StartRecord, [])
 shrinks_at_end s e fields = record { between = refl; weakly = omega arith; less = λ f. absurd (true≢false (sym e ∙ f)) }
 
 shrinks_by_byte : (s after : State) (c : ℕ) (rest : List ℕ) (fields : List (List ℕ)) → ends_at_end after ≡ false
@@ -65,7 +70,8 @@ shrinks s fields field (c ∷ rest) read h =
 abbrev records_after : Option Read → ℕ → List (List (List ℕ))
 records_after read count = records_next (records_from default_config count) read
 
-enough_after : (n m : ℕ) (s : State) (bytes : List ℕ) (read : Option Read) → next_record default_config s [] [] bytes ≡ read
+enough_after : (n m : ℕ) (s : State) (bytes : List ℕ) (read : Option Read)
+    → next_record default_config s [] [] bytes ≡ read
     → ends_at_end s ≡ false → length bytes ≤ n → length bytes ≤ m
     → ((t : State) (rest : List ℕ) → ends_at_end t ≡ false → length rest < n → length rest < m
     → records_from default_config n t rest ≡ records_from default_config m t rest)
@@ -87,7 +93,8 @@ enough (suc n) (suc m) s bytes e h k =
     (λ t rest f i j. enough n m t rest f i j)
 
 -- a record that is read stands first of those that were left
-next_left : (s : State) (bytes : List ℕ) (read : Read) → ends_at_end s ≡ false → next_record default_config s [] [] bytes ≡ Some read
+next_left : (s : State) (bytes : List ℕ) (read : Read) → ends_at_end s ≡ false
+    → next_record default_config s [] [] bytes ≡ Some read
     → records_in s (Some bytes) ≡ read.0 ∷ records_in read.1 (Some read.2)
 unfolding records_from
 next_left s bytes read e h =
@@ -97,7 +104,8 @@ next_left s bytes read e h =
     (enough (length bytes) (length read.2 + 1) read.1 read.2 after.between fewer (omega arith)))
 
 -- where none is read none was left
-none_left : (s : State) (bytes : List ℕ) → next_record default_config s [] [] bytes ≡ None → records_in s (Some bytes) ≡ []
+none_left : (s : State) (bytes : List ℕ) → next_record default_config s [] [] bytes ≡ None
+    → records_in s (Some bytes) ≡ []
 unfolding records_from
 none_left s bytes h = rw (add-one (length bytes), h) refl
 
@@ -121,10 +129,16 @@ took old new fields b ready r =
     let (state, left) = state_left in
     let after = shrinks old.state [] [] b.bytes read is in
     record {
-      left = rw b.known (next_left old.state b.bytes read b.between is ∙ same_left read fields new.state rest (bytes_left new) same state left known);
-      between = record { config = r.2 ∙ b.config; trim = r.3 ∙ b.trim; ready = ready; between = rw (← state) after.between; bytes = rest; known = known };
+      left =
+          rw b.known
+          (next_left old.state b.bytes read b.between is ∙ same_left read fields new.state rest (bytes_left new) same state left known);
+      between =
+          record
+          { config = r.2 ∙ b.config; trim = r.3 ∙ b.trim; ready = ready; between = rw (← state) after.between; bytes = rest; known = known };
     }
 
 pub ended : (old new : Reader (Bor (List ℕ))) (fields : List (List ℕ)) → IsBetween old
     → ReadRecord (λ bytes. Some bytes.now) old new false fields → records_in old.state (bytes_left old) ≡ []
-ended old new fields b r = rw b.known (none_left old.state b.bytes (rows-end (λ (bytes : Bor (List ℕ)). Some bytes.now) old new fields default_config b.bytes b.config b.known r))
+ended old new fields b r =
+    rw b.known
+    (none_left old.state b.bytes (rows-end (λ (bytes : Bor (List ℕ)). Some bytes.now) old new fields default_config b.bytes b.config b.known r))

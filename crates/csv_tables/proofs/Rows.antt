@@ -30,7 +30,8 @@ cell_in_rows zero width cells row column h k = absurd (omega arith)
 cell_in_rows (suc count) width cells zero column h k = rw (zero-mul, zero-add) (slice_get-take width column cells k)
 cell_in_rows (suc count) width cells (suc row) column h k =
     let e : suc row * width + column ≡ width + (row * width + column) = rw suc-mul (omega arith) in
-    rw e (cell_in_rows count width (drop width cells) row column (omega arith) k ∙ slice_get-drop width (row * width + column) cells)
+    rw e
+    (cell_in_rows count width (drop width cells) row column (omega arith) k ∙ slice_get-drop width (row * width + column) cells)
 
 -- and that place is in the list
 pub cell_place : (count width row column : ℕ) → row < count → column < width → row * width + column < count * width

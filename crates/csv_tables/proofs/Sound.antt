@@ -1,6 +1,6 @@
 -- A file without a fault spells a table.
 use Rattle.std.proofs.Common.{if◌then◌else◌, ◌≡◌, ◌≤◌, ◌+◌, ◌*◌, ℕ, suc, nat_eq, Bool, true, false, not, ◌||◌, List, [], ◌∷◌, ◌++◌, get_or, length, map, Option, None, Some, Ok, refl, sym, ap, ◌∙◌, arith, zero-mul, suc-mul, length-append}
-use Rattle.std.proofs.lemmas.Bool.{true≢false}
+use Rattle.std.proofs.lemmas.Bool.{and_parts, or_parts, true≢false}
 use Rattle.std.proofs.lemmas.List.{drop_at, get_or-map, length-map, take_at}
 use Rattle.std.specs.List.{flat_map, list_all, list_any}
 use Rattle.std.specs.Str.{bytes_eq, is_utf8}
@@ -24,7 +24,6 @@ use Rattle.csv_tables.specs.declared.header.Heading.{Heading}
 use Rattle.csv_tables.specs.declared.table.TheConstants.{CELL_LIMIT, ROW_LIMIT}
 use Rattle.csv_tables.proofs.Rows.{length-rows_of}
 use Rattle.csv_tables.proofs.Spelled.{NoFault, cell_first, no_fault, shape_faults, spelled}
-use Rattle.csv_tables.proofs.Texts.{first_and, second_and}
 
 -- ---- each cell is one of its column's kind
 
@@ -32,36 +31,44 @@ none_here : (b : Bool) (n : ℕ) (rest : Option ℕ) → (if b then rest else So
 none_here true n rest h = (refl, h)
 none_here false n rest h = cc
 
-none_in_row : (n : ℕ) (column : Option ℕ) (below : Option (ℕ × ℕ)) → cell_in_row n column below ≡ None → (column ≡ None) × (below ≡ None)
+none_in_row : (n : ℕ) (column : Option ℕ) (below : Option (ℕ × ℕ)) → cell_in_row n column below ≡ None
+    → (column ≡ None) × (below ≡ None)
 none_in_row n None below h = (refl, h)
 none_in_row n (Some column) below h = cc
 
 -- a cell that may stand under a heading is one of the column's kind, where a column of numbers has numbers alone
-stands : (mark : Option Kind) (numbers : Bool) (text : List ℕ) → may_stand mark text ≡ true → (numbers ≡ true → is_whole_number text ≡ true)
-    → is_cell (kind_by mark numbers) text ≡ true
+stands : (kind_tag : Option Kind) (numbers : Bool) (text : List ℕ) → may_stand kind_tag text ≡ true
+    → (numbers ≡ true → is_whole_number text ≡ true)
+    → is_cell (kind_by kind_tag numbers) text ≡ true
 stands (Some kind) numbers text h n = h
 stands None true text h n = n refl
 stands None false text h n = h
 
-row_is_sound : (column : ℕ) (headings : List Heading) (all : List (List (List ℕ))) (row : List (List ℕ)) → bad_column column headings row ≡ None
-    → ((k : ℕ) → all_numbers k all ≡ true → is_whole_number (field row k) ≡ true) → are_cells column (columns_from column headings all) row ≡ true
+row_is_sound : (column : ℕ) (headings : List Heading) (all : List (List (List ℕ))) (row : List (List ℕ))
+    → bad_column column headings row ≡ None
+    → ((k : ℕ) → all_numbers k all ≡ true → is_whole_number (field row k) ≡ true)
+    → are_cells column (columns_from column headings all) row ≡ true
 row_is_sound column [] all row h n = refl
 row_is_sound column (heading ∷ headings) all row h n =
-    let (here, rest) = none_here (may_stand heading.mark (field row column)) (column + 1) (bad_column (suc column) headings row) h in
-    let cell = stands heading.mark (is_number_column column all) (field row column) here (λ e. n column (second_and _ _ e)) in
+    let (here, rest) = none_here (may_stand heading.kind_tag (field row column)) (column + 1) (bad_column (suc column) headings row) h in
+    let cell = stands heading.kind_tag (is_number_column column all) (field row column) here (λ e. n column (and_parts _ _ e).1) in
     rw (cell) (row_is_sound (suc column) headings all row rest n)
 
-pub rows_are_sound : (n : ℕ) (headings : List Heading) (all rows : List (List (List ℕ))) → bad_cell n headings rows ≡ None
-    → ((k : ℕ) → all_numbers k all ≡ true → all_numbers k rows ≡ true) → list_all (are_cells 0 (columns_from 0 headings all)) rows ≡ true
+pub rows_are_sound : (n : ℕ) (headings : List Heading) (all rows : List (List (List ℕ)))
+    → bad_cell n headings rows ≡ None
+    → ((k : ℕ) → all_numbers k all ≡ true → all_numbers k rows ≡ true)
+    → list_all (are_cells 0 (columns_from 0 headings all)) rows ≡ true
 rows_are_sound n headings all [] h p = refl
 rows_are_sound n headings all (row ∷ rows) h p =
     let (here, below) = none_in_row n (bad_column 0 headings row) (bad_cell (suc n) headings rows) h in
-    let this = row_is_sound 0 headings all row here (λ k e. first_and (is_whole_number (field row k)) (all_numbers k rows) (p k e)) in
-    rw (this) (rows_are_sound (suc n) headings all rows below (λ k e. second_and (is_whole_number (field row k)) (all_numbers k rows) (p k e)))
+    let this = row_is_sound 0 headings all row here (λ k e. (and_parts (is_whole_number (field row k)) (all_numbers k rows) (p k e)).0) in
+    rw (this)
+    (rows_are_sound (suc n) headings all rows below (λ k e. (and_parts (is_whole_number (field row k)) (all_numbers k rows) (p k e)).1))
 
 -- ---- the columns are a schema
 
-pub length-columns_from : (column : ℕ) (headings : List Heading) (rows : List (List (List ℕ))) → length (columns_from column headings rows) ≡ length headings
+pub length-columns_from : (column : ℕ) (headings : List Heading) (rows : List (List (List ℕ)))
+    → length (columns_from column headings rows) ≡ length headings
 length-columns_from column [] rows = refl
 length-columns_from column (heading ∷ headings) rows = ap suc (length-columns_from (suc column) headings rows)
 
@@ -71,16 +78,14 @@ names_of columns = map (λ (column : Column). column.name) columns
 names-columns_from : (column : ℕ) (header : List (List ℕ)) (rows : List (List (List ℕ)))
     → names_of (columns_from column (map heading_of header) rows) ≡ map name_of header
 names-columns_from column [] rows = refl
-names-columns_from column (cell ∷ header) rows = ap (λ (names : List (List ℕ)). name_of cell ∷ names) (names-columns_from (suc column) header rows)
+names-columns_from column (cell ∷ header) rows =
+    ap (λ (names : List (List ℕ)). name_of cell ∷ names) (names-columns_from (suc column) header rows)
 
-or_false : (a b : Bool) → (a || b) ≡ false → (a ≡ false) × (b ≡ false)
-or_false false b h = (refl, h)
-or_false true b h = absurd (true≢false h)
-
-any-append : (test : List ℕ → Bool) (xs ys : List (List ℕ)) → list_any test (xs ++ ys) ≡ false → (list_any test xs ≡ false) × (list_any test ys ≡ false)
+any-append : (test : List ℕ → Bool) (xs ys : List (List ℕ)) → list_any test (xs ++ ys) ≡ false
+    → (list_any test xs ≡ false) × (list_any test ys ≡ false)
 any-append test [] ys h = (refl, h)
 any-append test (x ∷ xs) ys h =
-    let (here, rest) = or_false (test x) (list_any test (xs ++ ys)) h in
+    let (here, rest) = or_parts (test x) (list_any test (xs ++ ys)) h in
     let (front, back) = any-append test xs ys rest in
     (rw here front, back)
 
@@ -91,12 +96,14 @@ good_or_bad true n rest h = cc
 good_parts : (earlier : List (List ℕ)) (name : List ℕ) → is_bad_name earlier name ≡ false
     → (nat_eq (length name) 0 ≡ false) × (list_any (bytes_eq name) earlier ≡ false)
 good_parts earlier name h =
-    let (front, new) = or_false (nat_eq (length name) 0 || not (is_utf8 name)) (list_any (bytes_eq name) earlier) h in
-    ((or_false (nat_eq (length name) 0) (not (is_utf8 name)) front).0, new)
+    let (front, new) = or_parts (nat_eq (length name) 0 || not (is_utf8 name)) (list_any (bytes_eq name) earlier) h in
+    ((or_parts (nat_eq (length name) 0) (not (is_utf8 name)) front).0, new)
 
 -- a name that is there already doesn't come again
-not_again : (name : List ℕ) (n : ℕ) (earlier : List (List ℕ)) (columns : List Column) → bad_name n earlier (names_of columns) ≡ None
-    → ((other : List ℕ) → list_any (bytes_eq other) earlier ≡ false → bytes_eq other name ≡ false) → is_name_in name columns ≡ false
+not_again : (name : List ℕ) (n : ℕ) (earlier : List (List ℕ)) (columns : List Column)
+    → bad_name n earlier (names_of columns) ≡ None
+    → ((other : List ℕ) → list_any (bytes_eq other) earlier ≡ false → bytes_eq other name ≡ false)
+    → is_name_in name columns ≡ false
 not_again name n earlier [] h there = refl
 not_again name n earlier (column ∷ columns) h there =
     let (good, rest) = good_or_bad (is_bad_name earlier column.name) n (bad_name (suc n) (earlier ++ column.name ∷ []) (names_of columns)) h in
@@ -104,24 +111,28 @@ not_again name n earlier (column ∷ columns) h there =
     rw (there column.name new)
     (not_again name (suc n) (earlier ++ column.name ∷ []) columns rest (λ other e. there other (any-append (bytes_eq other) earlier (column.name ∷ []) e).0))
 
-pub names_are_good : (n : ℕ) (earlier : List (List ℕ)) (columns : List Column) → bad_name n earlier (names_of columns) ≡ None → are_names columns ≡ true
+pub names_are_good : (n : ℕ) (earlier : List (List ℕ)) (columns : List Column)
+    → bad_name n earlier (names_of columns) ≡ None → are_names columns ≡ true
 names_are_good n earlier [] h = refl
 names_are_good n earlier (column ∷ columns) h =
     let (good, rest) = good_or_bad (is_bad_name earlier column.name) n (bad_name (suc n) (earlier ++ column.name ∷ []) (names_of columns)) h in
     let full = (good_parts earlier column.name good).0 in
     let alone = not_again column.name (suc n) (earlier ++ column.name ∷ []) columns rest
-    (λ other e. (or_false (bytes_eq other column.name) false (any-append (bytes_eq other) earlier (column.name ∷ []) e).1).0) in
+    (λ other e. (or_parts (bytes_eq other column.name) false (any-append (bytes_eq other) earlier (column.name ∷ []) e).1).0) in
     rw (full, alone) (names_are_good (suc n) (earlier ++ column.name ∷ []) columns rest)
 
-pub is_schema : (header : List (List ℕ)) (rows : List (List (List ℕ))) → NoFault header rows → IsSchema (columns_from 0 (map heading_of header) rows)
+pub is_schema : (header : List (List ℕ)) (rows : List (List (List ℕ))) → NoFault header rows
+    → IsSchema (columns_from 0 (map heading_of header) rows)
 is_schema header rows f = record {
   few = rw (length-columns_from 0 (map heading_of header) rows, length-map header heading_of) f.columns;
-  named = names_are_good 1 [] (columns_from 0 (map heading_of header) rows) (rw (names-columns_from 0 header rows) f.names);
+  named =
+      names_are_good 1 [] (columns_from 0 (map heading_of header) rows) (rw (names-columns_from 0 header rows) f.names);
 }
 
 -- ---- the cells are the rows
 
-pub length-values_from : (column : ℕ) (columns : List Column) (row : List (List ℕ)) → length (values_from column columns row) ≡ length columns
+pub length-values_from : (column : ℕ) (columns : List Column) (row : List (List ℕ))
+    → length (values_from column columns row) ≡ length columns
 length-values_from column [] row = refl
 length-values_from column (this ∷ columns) row = ap suc (length-values_from (suc column) columns row)
 
@@ -129,10 +140,12 @@ kind-value_of : (kind : Kind) (text : List ℕ) → kind_of (value_of kind text)
 kind-value_of Int text = refl
 kind-value_of Text text = refl
 
-kinds-values_from : (column : ℕ) (columns : List Column) (row : List (List ℕ)) → map kind_of (values_from column columns row) ≡ column_kinds columns
+kinds-values_from : (column : ℕ) (columns : List Column) (row : List (List ℕ))
+    → map kind_of (values_from column columns row) ≡ column_kinds columns
 kinds-values_from column [] row = refl
 kinds-values_from column (this ∷ columns) row =
-    rw (kind-value_of this.kind (field row column)) (ap (λ (kinds : List Kind). this.kind ∷ kinds) (kinds-values_from (suc column) columns row))
+    rw (kind-value_of this.kind (field row column))
+    (ap (λ (kinds : List Kind). this.kind ∷ kinds) (kinds-values_from (suc column) columns row))
 
 pub rows_of_cells : (columns : List Column) (rows : List (List (List ℕ)))
     → rows_of (length rows) (length columns) (flat_map (values_from 0 columns) rows) ≡ map (values_from 0 columns) rows
@@ -145,7 +158,8 @@ rows_of_cells columns (row ∷ rows) =
     rw (take_at values rest (length columns) width, drop_at values rest (length columns) width)
     (ap (λ (more : List (List Value)). values ∷ more) (rows_of_cells columns rows))
 
-length-cells : (columns : List Column) (rows : List (List (List ℕ))) → length (flat_map (values_from 0 columns) rows) ≡ length rows * length columns
+length-cells : (columns : List Column) (rows : List (List (List ℕ)))
+    → length (flat_map (values_from 0 columns) rows) ≡ length rows * length columns
 length-cells columns [] = sym (zero-mul (length columns))
 length-cells columns (row ∷ rows) =
     let rest = length-cells columns rows in
@@ -213,7 +227,8 @@ pub record Second (columns schema slice : List Column) (items : List Value) (lef
   pub items_are : items ≡ flat_map (values_from 0 slice) left
 
 pub kept : (bytes : List ℕ) (headings : List Heading) (survey : Survey) (columns schema slice : List Column) (items : List Value) (left : List (List (List ℕ)))
-    → Built bytes headings survey columns left → Second columns schema slice items left → IsKept schema survey.row_count items
+    → Built bytes headings survey columns left → Second columns schema slice items left
+    → IsKept schema survey.row_count items
 kept bytes headings survey columns schema slice items left k s =
     rw (s.schema_is, s.items_are, s.slice_is, k.left_are, k.row_count) (is_kept columns k.rows k.schema k.few k.cells)
 
@@ -240,7 +255,8 @@ cell_fault_is_first bytes header rows headings survey at r s e =
     cell_first header rows (Some at) r.columns r.names r.shape (rw r.headings_are at (sym s.bad_cell) ∙ e)
 
 pub sound_file : (bytes : List ℕ) (header : List (List ℕ)) (rows : List (List (List ℕ))) (headings : List Heading) (survey : Survey)
-    → Read bytes header rows headings → IsSurvey headings rows survey → survey.bad_cell ≡ None → IsSoundFile bytes headings survey
+    → Read bytes header rows headings → IsSurvey headings rows survey → survey.bad_cell ≡ None
+    → IsSoundFile bytes headings survey
 sound_file bytes header rows headings survey r s e = record {
   header = header;
   rows = rows;

@@ -35,7 +35,8 @@ refused bytes header rows fault reads first = rw (reads, first) refl
 
 -- a file whose records have none
 pub spelled : (bytes : List ℕ) (header : List (List ℕ)) (rows : List (List (List ℕ)))
-    → records_of bytes ≡ header ∷ rows → first_of (faults_of header rows) ≡ None → table_of bytes ≡ Ok (table_under header rows)
+    → records_of bytes ≡ header ∷ rows → first_of (faults_of header rows) ≡ None
+    → table_of bytes ≡ Ok (table_under header rows)
 unfolding table_of
 spelled bytes header rows reads first = rw (reads, first) refl
 
@@ -43,16 +44,20 @@ pub columns_first : (header : List (List ℕ)) (rows : List (List (List ℕ))) �
     → first_of (faults_of header rows) ≡ Some Columns
 columns_first header rows h = rw (above COLUMN_LIMIT (length header) h) refl
 
-pub name_first : (header : List (List ℕ)) (rows : List (List (List ℕ))) (fault : TableFault) → length header ≤ COLUMN_LIMIT
-    → option_map BadHeader (bad_name 1 [] (map name_of header)) ≡ Some fault → first_of (faults_of header rows) ≡ Some fault
+pub name_first : (header : List (List ℕ)) (rows : List (List (List ℕ))) (fault : TableFault)
+    → length header ≤ COLUMN_LIMIT
+    → option_map BadHeader (bad_name 1 [] (map name_of header)) ≡ Some fault
+    → first_of (faults_of header rows) ≡ Some fault
 name_first header rows fault h e = rw (within COLUMN_LIMIT (length header) h, e) refl
 
 -- the faults that a shape shows
 abbrev pub shape_faults : ℕ → ℕ → Option ℕ → Option TableFault
 shape_faults row_count column_count uneven =
-    first_of (fault_if (nat_lt ROW_LIMIT row_count) Rows ∷ fault_if (nat_lt CELL_LIMIT (row_count * column_count)) Cells ∷ option_map NotCsv uneven ∷ [])
+    first_of
+    (fault_if (nat_lt ROW_LIMIT row_count) Rows ∷ fault_if (nat_lt CELL_LIMIT (row_count * column_count)) Cells ∷ option_map NotCsv uneven ∷ [])
 
-first_of_three : (a b d e : Option TableFault) (fault : TableFault) → first_of (a ∷ b ∷ d ∷ []) ≡ Some fault → first_of (a ∷ b ∷ d ∷ e ∷ []) ≡ Some fault
+first_of_three : (a b d e : Option TableFault) (fault : TableFault) → first_of (a ∷ b ∷ d ∷ []) ≡ Some fault
+    → first_of (a ∷ b ∷ d ∷ e ∷ []) ≡ Some fault
 first_of_three (Some x) b d e fault h = h
 first_of_three None (Some x) d e fault h = h
 first_of_three None None (Some x) e fault h = h
@@ -68,21 +73,28 @@ last_of_four None None None (Some x) h = refl
 abbrev pub cell_fault : ℕ × ℕ → TableFault
 cell_fault at = BadCell at.0 at.1
 
-pub shape_first : (header : List (List ℕ)) (rows : List (List (List ℕ))) (fault : TableFault) → length header ≤ COLUMN_LIMIT
-    → bad_name 1 [] (map name_of header) ≡ None → shape_faults (length rows) (length header) (uneven_row 1 (length header) rows) ≡ Some fault
+pub shape_first : (header : List (List ℕ)) (rows : List (List (List ℕ))) (fault : TableFault)
+    → length header ≤ COLUMN_LIMIT
+    → bad_name 1 [] (map name_of header) ≡ None
+    → shape_faults (length rows) (length header) (uneven_row 1 (length header) rows) ≡ Some fault
     → first_of (faults_of header rows) ≡ Some fault
 shape_first header rows fault few names h = rw (within COLUMN_LIMIT (length header) few, names)
     (first_of_three (fault_if (nat_lt ROW_LIMIT (length rows)) Rows) (fault_if (nat_lt CELL_LIMIT (length rows * length header)) Cells)
-    (option_map NotCsv (uneven_row 1 (length header) rows)) (option_map cell_fault (bad_cell 1 (map heading_of header) rows)) fault h)
+    (option_map NotCsv (uneven_row 1 (length header) rows))
+    (option_map cell_fault (bad_cell 1 (map heading_of header) rows)) fault h)
 
-pub cell_first : (header : List (List ℕ)) (rows : List (List (List ℕ))) (bad : Option (ℕ × ℕ)) → length header ≤ COLUMN_LIMIT
-    → bad_name 1 [] (map name_of header) ≡ None → shape_faults (length rows) (length header) (uneven_row 1 (length header) rows) ≡ None
+pub cell_first : (header : List (List ℕ)) (rows : List (List (List ℕ))) (bad : Option (ℕ × ℕ))
+    → length header ≤ COLUMN_LIMIT
+    → bad_name 1 [] (map name_of header) ≡ None
+    → shape_faults (length rows) (length header) (uneven_row 1 (length header) rows) ≡ None
     → bad_cell 1 (map heading_of header) rows ≡ bad → first_of (faults_of header rows) ≡ option_map cell_fault bad
 cell_first header rows bad few names h e = rw (within COLUMN_LIMIT (length header) few, names)
     (last_of_four (fault_if (nat_lt ROW_LIMIT (length rows)) Rows) (fault_if (nat_lt CELL_LIMIT (length rows * length header)) Cells)
-    (option_map NotCsv (uneven_row 1 (length header) rows)) (option_map cell_fault (bad_cell 1 (map heading_of header) rows)) h ∙ ap (option_map cell_fault) e)
+    (option_map NotCsv (uneven_row 1 (length header) rows)) (option_map cell_fault (bad_cell 1 (map heading_of header) rows)) h
+    ∙ ap (option_map cell_fault) e)
 
-first_is_none : (fault : Option TableFault) (faults : List (Option TableFault)) → first_of (fault ∷ faults) ≡ None → fault ≡ None
+first_is_none : (fault : Option TableFault) (faults : List (Option TableFault)) → first_of (fault ∷ faults) ≡ None
+    → fault ≡ None
 first_is_none None faults h = refl
 first_is_none (Some fault) faults h = cc
 
@@ -99,13 +111,16 @@ same_parts a b xs ys h = (cc, cc)
 -- ---- the shape
 
 -- where a shape has no fault, the rows are few
-pub few_rows : (row_count column_count : ℕ) (uneven : Option ℕ) → shape_faults row_count column_count uneven ≡ None → row_count ≤ ROW_LIMIT
+pub few_rows : (row_count column_count : ℕ) (uneven : Option ℕ) → shape_faults row_count column_count uneven ≡ None
+    → row_count ≤ ROW_LIMIT
 few_rows row_count column_count uneven h =
-    not_above ROW_LIMIT row_count (if_none (nat_lt ROW_LIMIT row_count) Rows (first_is_none (fault_if (nat_lt ROW_LIMIT row_count) Rows)
+    not_above ROW_LIMIT row_count
+    (if_none (nat_lt ROW_LIMIT row_count) Rows (first_is_none (fault_if (nat_lt ROW_LIMIT row_count) Rows)
     (fault_if (nat_lt CELL_LIMIT (row_count * column_count)) Cells ∷ option_map NotCsv uneven ∷ []) h))
 
 -- an uneven row is one of the rows
-uneven_within : (n width : ℕ) (rows : List (List (List ℕ))) (number : ℕ) → uneven_row n width rows ≡ Some number → number < n + length rows
+uneven_within : (n width : ℕ) (rows : List (List (List ℕ))) (number : ℕ) → uneven_row n width rows ≡ Some number
+    → number < n + length rows
 uneven_within n width [] number h = cc
 uneven_within n width (row ∷ rows) number h =
     elim (cases_Bool (nat_eq (length row) width)) [
@@ -113,12 +128,14 @@ uneven_within n width (row ∷ rows) number h =
       | inr e ↦ let same : n ≡ number = some_same n number (rw e at h) in omega arith
     ]
 
-pub uneven_fits : (width : ℕ) (rows : List (List (List ℕ))) (o : Option ℕ) → uneven_row 1 width rows ≡ o → IfSome o (λ number. number ≤ length rows)
+pub uneven_fits : (width : ℕ) (rows : List (List (List ℕ))) (o : Option ℕ) → uneven_row 1 width rows ≡ o
+    → IfSome o (λ number. number ≤ length rows)
 uneven_fits width rows None h = tt
 uneven_fits width rows (Some number) h = let inside = uneven_within 1 width rows number h in omega arith
 
 -- a file of no record has no columns
-pub none_counted : (records : List (List (List ℕ))) (shape : Shape) → IsShape records shape → shape.column_count ≡ None → records ≡ []
+pub none_counted : (records : List (List (List ℕ))) (shape : Shape) → IsShape records shape → shape.column_count ≡ None
+    → records ≡ []
 none_counted [] shape s e = refl
 none_counted (header ∷ rows) shape s e = let some = s.column_count in cc
 
@@ -130,7 +147,8 @@ pub record Headed (records : List (List (List ℕ))) (shape : Shape) (width : �
   pub width_is : width ≡ length header
   pub shape_is : IsShapeOf (length header) rows shape
 
-pub some_counted : (records : List (List (List ℕ))) (shape : Shape) (width : ℕ) → IsShape records shape → shape.column_count ≡ Some width → Headed records shape width
+pub some_counted : (records : List (List (List ℕ))) (shape : Shape) (width : ℕ) → IsShape records shape
+    → shape.column_count ≡ Some width → Headed records shape width
 some_counted [] shape width s e = cc
 some_counted (header ∷ rows) shape width s e = record {
   header = header;
@@ -147,7 +165,8 @@ pub record FirstRead (records : List (List (List ℕ))) (shape : Shape) (width :
   pub shape_is : IsShapeOf (length fields) left shape
 
 pub first_read : (records : List (List (List ℕ))) (shape : Shape) (width : ℕ) (found : Bool) (fields : List (List ℕ)) (left : List (List (List ℕ)))
-    → Headed records shape width → records ≡ (if found then fields ∷ left else []) → FirstRead records shape width fields left
+    → Headed records shape width → records ≡ (if found then fields ∷ left else [])
+    → FirstRead records shape width fields left
 first_read records shape width false fields left h e = let are = h.are in cc
 first_read records shape width true fields left h e =
     let (same, rest) = same_parts h.header fields h.rows left (sym h.are ∙ e) in
@@ -175,7 +194,8 @@ map_none : {T : Type 0} (f : T → TableFault) (o : Option T) → option_map f o
 map_none f None h = refl
 map_none f (Some x) h = cc
 
-pub no_fault : (header : List (List ℕ)) (rows : List (List (List ℕ))) → first_of (faults_of header rows) ≡ None → NoFault header rows
+pub no_fault : (header : List (List ℕ)) (rows : List (List (List ℕ))) → first_of (faults_of header rows) ≡ None
+    → NoFault header rows
 no_fault header rows h =
     let (columns, names, many, cells, bad) = all_none
     (fault_if (nat_lt COLUMN_LIMIT (length header)) Columns) (option_map BadHeader (bad_name 1 [] (map name_of header)))
@@ -185,6 +205,8 @@ no_fault header rows h =
       columns = not_above COLUMN_LIMIT (length header) (if_none (nat_lt COLUMN_LIMIT (length header)) Columns columns);
       names = map_none (λ (n : ℕ). BadHeader n) (bad_name 1 [] (map name_of header)) names;
       rows_few = not_above ROW_LIMIT (length rows) (if_none (nat_lt ROW_LIMIT (length rows)) Rows many);
-      cells = not_above CELL_LIMIT (length rows * length header) (if_none (nat_lt CELL_LIMIT (length rows * length header)) Cells cells);
+      cells =
+          not_above CELL_LIMIT (length rows * length header)
+          (if_none (nat_lt CELL_LIMIT (length rows * length header)) Cells cells);
       bad = map_none cell_fault (bad_cell 1 (map heading_of header) rows) bad;
     }

@@ -2,7 +2,7 @@
 use Rattle.std.proofs.Common.{◌≡◌, ◌<◌, ◌≤◌, ◌+◌, ◌∙◌, ℕ, zero, suc, nat_eq, Bool, true, false, ◌&&◌, if◌then◌else◌, List, [], ◌∷◌, ◌++◌, drop, length, map, take, Option, None, Some, refl, sym, ap, add-zero, zero-add, arith}
 use Rattle.std.specs.Cmp.Lexicographic.{pointwise}
 use Rattle.std.specs.Option.{option_or}
-use Rattle.std.proofs.lemmas.Bool.{false≢true}
+use Rattle.std.proofs.lemmas.Bool.{and_parts, false≢true}
 use Rattle.std.proofs.lemmas.List.{length_push}
 use Rattle.csv.specs.Machine.{Read, ends_at_end, field_after, fields_after, is_end, next_record, step}
 use Rattle.csv.specs.Reading.{default_config, records_from, records_next, strip_bom}
@@ -17,30 +17,34 @@ use Rattle.csv_tables.specs.Tallies.{all_noted, by_end, noted, widths}
 use Rattle.csv_tables.specs.declared.shape.Shape.{Shape}
 use Rattle.csv_tables.proofs.RecordsLeft.{shrinks}
 use Rattle.csv_tables.proofs.Surveyed.{none_later, uneven_step}
-use Rattle.csv_tables.proofs.Texts.{second_and}
 
 -- ---- a byte order mark
 
-mark_goes : (p q r : Bool) (rest whole : List ℕ) → (p && (q && (r && true))) ≡ true → rest ≡ (if (p && q && r) then rest else whole)
+mark_goes : (p q r : Bool) (rest whole : List ℕ) → (p && (q && (r && true))) ≡ true
+    → rest ≡ (if (p && q && r) then rest else whole)
 mark_goes true true true rest whole h = refl
 mark_goes true true false rest whole h = cc
 mark_goes true false r rest whole h = cc
 mark_goes false q r rest whole h = cc
 
-mark_stays : (p q r : Bool) (rest whole : List ℕ) → (p && (q && (r && true))) ≡ false → whole ≡ (if (p && q && r) then rest else whole)
+mark_stays : (p q r : Bool) (rest whole : List ℕ) → (p && (q && (r && true))) ≡ false
+    → whole ≡ (if (p && q && r) then rest else whole)
 mark_stays true true true rest whole h = cc
 mark_stays true true false rest whole h = refl
 mark_stays true false r rest whole h = refl
 mark_stays false q r rest whole h = refl
 
-pub with_mark : (bytes : List ℕ) → pointwise nat_eq (take 3 bytes) (239 ∷ 187 ∷ 191 ∷ []) ≡ true → drop 3 bytes ≡ strip_bom bytes
+pub with_mark : (bytes : List ℕ) → pointwise nat_eq (take 3 bytes) (239 ∷ 187 ∷ 191 ∷ []) ≡ true
+    → drop 3 bytes ≡ strip_bom bytes
 unfolding strip_bom
 with_mark [] h = cc
-with_mark (a ∷ []) h = absurd (false≢true (second_and (nat_eq a 239) false h))
-with_mark (a ∷ b ∷ []) h = absurd (false≢true (second_and (nat_eq b 187) false (second_and (nat_eq a 239) (nat_eq b 187 && false) h)))
+with_mark (a ∷ []) h = absurd (false≢true ((and_parts (nat_eq a 239) false h).1))
+with_mark (a ∷ b ∷ []) h =
+    absurd (false≢true (and_parts (nat_eq b 187) false (and_parts (nat_eq a 239) (nat_eq b 187 && false) h).1).1)
 with_mark (a ∷ b ∷ c ∷ rest) h = mark_goes (nat_eq a 239) (nat_eq b 187) (nat_eq c 191) rest (a ∷ b ∷ c ∷ rest) h
 
-pub without_mark : (bytes : List ℕ) → pointwise nat_eq (take 3 bytes) (239 ∷ 187 ∷ 191 ∷ []) ≡ false → bytes ≡ strip_bom bytes
+pub without_mark : (bytes : List ℕ) → pointwise nat_eq (take 3 bytes) (239 ∷ 187 ∷ 191 ∷ []) ≡ false
+    → bytes ≡ strip_bom bytes
 unfolding strip_bom
 without_mark [] h = refl
 without_mark (a ∷ []) h = refl
@@ -73,9 +77,11 @@ widths_of : (s : State) (fields : List (List ℕ)) (field bytes : List ℕ)
 unfolding next_record
 widths_of s fields field [] = at_end (ends_at_end s) fields field
 widths_of s fields field (byte ∷ rest) =
-    at_byte (step default_config s byte).1 (step default_config s byte).0 fields field byte rest (λ f g. widths_of (step default_config s byte).0 f g rest)
+    at_byte (step default_config s byte).1 (step default_config s byte).0 fields field byte rest
+    (λ f g. widths_of (step default_config s byte).0 f g rest)
 
-widths_after : (n : ℕ) (s : State) (bytes : List ℕ) (read : Option Read) → next_record default_config s [] [] bytes ≡ read
+widths_after : (n : ℕ) (s : State) (bytes : List ℕ) (read : Option Read)
+    → next_record default_config s [] [] bytes ≡ read
     → ends_at_end s ≡ false → length bytes ≤ n → WidthsOf read (widths s 0 bytes)
     → ((t : State) (rest : List ℕ) → ends_at_end t ≡ false → length rest < n → map length (records_from default_config n t rest) ≡ widths t 0 rest)
     → map length (records_next (records_from default_config n) read) ≡ widths s 0 bytes
@@ -115,14 +121,18 @@ shape_known (header ∷ rows) =
     let now = counted (length header) 0 None rows in
     rw now (record { column_count = refl; row_count = zero-add (length rows); uneven = refl })
 
-pub shape_is : (bytes : List ℕ) (shape : Shape) → shape ≡ all_noted start (widths st.StartRecord 0 (strip_bom bytes)) → IsShape (records_of bytes) shape
+pub shape_is : (bytes : List ℕ) (shape : Shape) → shape ≡ all_noted start (widths st.StartRecord 0 (strip_bom bytes))
+    → IsShape (records_of bytes) shape
 shape_is bytes shape e =
-    rw (e, ← widths_records (length (strip_bom bytes) + 1) st.StartRecord (strip_bom bytes) refl (omega arith)) (shape_known (records_of bytes))
+    rw (e, ← widths_records (length (strip_bom bytes) + 1) st.StartRecord (strip_bom bytes) refl (omega arith))
+    (shape_known (records_of bytes))
 
 -- at the end of the bytes a record may still stand open
-pub closed : (ends : Bool) (shape all : Shape) (fields : ℕ) → ends ≡ false → all_noted shape (if ends then (fields + 1) ∷ [] else []) ≡ all → shape ≡ all
+pub closed : (ends : Bool) (shape all : Shape) (fields : ℕ) → ends ≡ false
+    → all_noted shape (if ends then (fields + 1) ∷ [] else []) ≡ all → shape ≡ all
 closed ends shape all fields e h = rw e at h
 
-pub left_open : (ends : Bool) (shape all : Shape) (fields : ℕ) → ends ≡ true → all_noted shape (if ends then (fields + 1) ∷ [] else []) ≡ all
+pub left_open : (ends : Bool) (shape all : Shape) (fields : ℕ) → ends ≡ true
+    → all_noted shape (if ends then (fields + 1) ∷ [] else []) ≡ all
     → noted shape (fields + 1) ≡ all
 left_open ends shape all fields e h = rw e at h

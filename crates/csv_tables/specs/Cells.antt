@@ -24,7 +24,7 @@ abbrev pub value_of : Kind → List ℕ → Value
 value_of Int text = value.Int (number_of text)
 value_of Text text = value.Text text
 
--- whether a text may stand under a heading: in a column without a mark, any UTF-8
+-- whether a text may stand under a heading: in a column without a tag, any UTF-8
 abbrev pub may_stand : Option Kind → List ℕ → Bool
 may_stand (Some kind) text = is_cell kind text
 may_stand None text = is_utf8 text
@@ -37,7 +37,7 @@ all_numbers column rows = list_all (λ row. is_whole_number (field row column)) 
 abbrev pub is_number_column : ℕ → List (List (List ℕ)) → Bool
 is_number_column column rows = not (length rows == 0) && all_numbers column rows
 
--- the kind of a column: as marked, else INT exactly where it is a column of numbers
+-- the kind of a column: as tagged, else INT exactly where it is a column of numbers
 abbrev pub kind_by : Option Kind → Bool → Kind
 kind_by (Some kind) is_number = kind
 kind_by None is_number = if is_number then Int else Text
@@ -46,7 +46,7 @@ kind_by None is_number = if is_number then Int else Text
 abbrev pub columns_from : ℕ → List Heading → List (List (List ℕ)) → List Column
 columns_from column [] rows = []
 columns_from column (heading ∷ headings) rows =
-    record { name = heading.name; kind = kind_by heading.mark (is_number_column column rows) } ∷ columns_from (suc column) headings rows
+    record { name = heading.name; kind = kind_by heading.kind_tag (is_number_column column rows) } ∷ columns_from (suc column) headings rows
 
 -- the values of a row, from this column on
 abbrev pub values_from : ℕ → List Column → List (List ℕ) → List Value
@@ -57,7 +57,7 @@ values_from column (this ∷ columns) row = value_of this.kind (field row column
 abbrev pub bad_column : ℕ → List Heading → List (List ℕ) → Option ℕ
 bad_column column [] row = None
 bad_column column (heading ∷ headings) row =
-    if may_stand heading.mark (field row column) then bad_column (suc column) headings row else Some (column + 1)
+    if may_stand heading.kind_tag (field row column) then bad_column (suc column) headings row else Some (column + 1)
 
 -- whether each field of a row, from this column on, is a cell of its column's kind
 abbrev pub are_cells : ℕ → List Column → List (List ℕ) → Bool

@@ -1,4 +1,4 @@
--- The header of a file: what its cells name and mark.
+-- The header of a file: names, and tags of kinds.
 use Rattle.std.specs.Prelude.{ℕ, suc, ◌-◌, ◌==◌, Bool, not, ◌||◌, if◌then◌else◌, List, [], ◌∷◌, ◌++◌, codes, drop, length, take, Option, None, Some}
 use Rattle.std.specs.Str.{bytes_eq, is_utf8}
 use Rattle.std.specs.List.{list_any}
@@ -14,11 +14,12 @@ ends_in end text = bytes_eq (drop (length text - length end) text) end
 abbrev pub without_end : List ℕ → List ℕ → List ℕ
 without_end end text = take (length text - length end) text
 
--- the kind that a header cell marks: that of its end `:int` or `:text`, where it has one
-abbrev pub mark_of : List ℕ → Option Kind
-mark_of cell = if ends_in (codes ":int") cell then Some Int else if ends_in (codes ":text") cell then Some Text else None
+-- the kind that a header cell has a tag of: that of its end `:int` or `:text`, where it has one
+abbrev pub kind_tag_of : List ℕ → Option Kind
+kind_tag_of cell =
+    if ends_in (codes ":int") cell then Some Int else if ends_in (codes ":text") cell then Some Text else None
 
--- the name in a header cell: what stands before the mark
+-- the name in a header cell: what stands before the tag
 abbrev pub name_of : List ℕ → List ℕ
 name_of cell =
     if ends_in (codes ":int") cell then without_end (codes ":int") cell
@@ -31,8 +32,9 @@ is_bad_name earlier name = (length name == 0) || not (is_utf8 name) || list_any 
 -- the number of the first of these names that can't be a column's behind the earlier ones; the first one's is n
 abbrev pub bad_name : ℕ → List (List ℕ) → List (List ℕ) → Option ℕ
 bad_name n earlier [] = None
-bad_name n earlier (name ∷ names) = if is_bad_name earlier name then Some n else bad_name (suc n) (earlier ++ name ∷ []) names
+bad_name n earlier (name ∷ names) =
+    if is_bad_name earlier name then Some n else bad_name (suc n) (earlier ++ name ∷ []) names
 
 -- what a header cell says
 abbrev pub heading_of : List ℕ → Heading
-heading_of cell = record { name = name_of cell; mark = mark_of cell }
+heading_of cell = record { name = name_of cell; kind_tag = kind_tag_of cell }

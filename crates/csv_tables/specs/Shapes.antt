@@ -7,18 +7,18 @@ use Rattle.csv.specs.declared.parser.State.TheVariants as st
 use Rattle.csv_tables.specs.Spelled.{uneven_row}
 use Rattle.csv_tables.specs.declared.shape.End.{End}
 use Rattle.csv_tables.specs.declared.shape.End.TheVariants as end
-use Rattle.csv_tables.specs.declared.shape.Place.{Place}
-use Rattle.csv_tables.specs.declared.shape.Place.TheVariants as place
+use Rattle.csv_tables.specs.declared.shape.ScanState.{ScanState}
+use Rattle.csv_tables.specs.declared.shape.ScanState.TheVariants as scan
 use Rattle.csv_tables.specs.declared.shape.Shape.{Shape}
 
--- the state of the crate's machine at a place
-abbrev pub state_at : Place → State
-state_at place.StartRecord = st.StartRecord
-state_at place.StartField = st.StartField
-state_at place.InField = st.InField
-state_at place.InQuoted = st.InQuoted
-state_at place.AfterQuote = st.AfterQuote
-state_at place.AfterReturn = st.AfterCr
+-- the state of the crate's machine at a state of the scan
+abbrev pub state_at : ScanState → State
+state_at scan.StartRecord = st.StartRecord
+state_at scan.StartField = st.StartField
+state_at scan.InField = st.InField
+state_at scan.InQuoted = st.InQuoted
+state_at scan.AfterQuote = st.AfterQuote
+state_at scan.AfterReturn = st.AfterCr
 
 -- what an action of the machine ends
 abbrev pub end_of : Action → End

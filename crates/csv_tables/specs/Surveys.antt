@@ -12,7 +12,8 @@ use Rattle.csv_tables.specs.declared.survey.Survey.{Survey}
 -- which columns, from this one on, still hold nothing but numbers after a row
 abbrev pub numbers_after : ℕ → List Bool → List (List ℕ) → List Bool
 numbers_after column [] row = []
-numbers_after column (so_far ∷ numbers) row = (so_far && is_whole_number (field row column)) ∷ numbers_after (suc column) numbers row
+numbers_after column (so_far ∷ numbers) row =
+    (so_far && is_whole_number (field row column)) ∷ numbers_after (suc column) numbers row
 
 -- a survey of no row, for so many columns
 pub record IsNew (column_count : ℕ) (survey : Survey) : Type 0 where
@@ -31,7 +32,8 @@ pub record IsSurvey (headings : List Heading) (rows : List (List (List ℕ))) (s
   pub row_count : survey.row_count ≡ length rows
   pub bad_cell : survey.bad_cell ≡ bad_cell 1 headings rows
   pub one_each : length survey.numbers.items ≡ length headings
-  pub numbers : (column : ℕ) → column < length headings → slice_index_or survey.numbers.items column false ≡ all_numbers column rows
+  pub numbers : (column : ℕ) → column < length headings
+      → slice_index_or survey.numbers.items column false ≡ all_numbers column rows
 
 -- the survey of a file that spells a table, under these headings
 pub record IsSoundFile (bytes : List ℕ) (headings : List Heading) (survey : Survey) : Type 0 where

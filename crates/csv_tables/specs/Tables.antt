@@ -42,7 +42,8 @@ pub record AreNumbers (table : TableValue) (column : ℕ) (numbers : List ℤ) :
 -- a list for each column, and those of the columns of whole numbers are their cells
 pub record ArePacked (table : TableValue) (packed : List (List ℤ)) : Type 0 where
   pub one_each : length packed ≡ length table.schema
-  pub numbers : (column : ℕ) → slice_get (column_kinds table.schema) column ≡ Some kind.Int → AreNumbers table column (slice_index_or packed column [])
+  pub numbers : (column : ℕ) → slice_get (column_kinds table.schema) column ≡ Some kind.Int
+      → AreNumbers table column (slice_index_or packed column [])
 
 -- a list of cells as so many rows of this width
 unfoldable pub rows_of : ℕ → ℕ → List Value → List (List Value)

@@ -38,8 +38,9 @@ abbrev pub widths : State → ℕ → List ℕ → List ℕ
 widths state fields [] = if ends_at_end state then (fields + 1) ∷ [] else []
 widths state fields (byte ∷ bytes) =
     by_end (end_of (step default_config state byte).1) (widths (step default_config state byte).0 fields bytes)
-    (widths (step default_config state byte).0 (fields + 1) bytes) ((fields + 1) ∷ widths (step default_config state byte).0 0 bytes)
+    (widths (step default_config state byte).0 (fields + 1) bytes)
+    ((fields + 1) ∷ widths (step default_config state byte).0 0 bytes)
 
 -- the shape of all records, by what was counted and the bytes that are left
 abbrev pub total_of : Count → List ℕ → Shape
-total_of count bytes = all_noted count.shape (widths (state_at count.place) count.field_count bytes)
+total_of count bytes = all_noted count.shape (widths (state_at count.state) count.field_count bytes)

@@ -8,10 +8,9 @@ ghost use Rattle.csv_tables.specs.Cells.{are_cells, is_cell, value_of, values_fr
 ghost use Rattle.csv_tables.specs.declared.table.TheConstants.{CELL_LIMIT};
 
 use crate::header::field;
-use crate::numbers::whole_number;
 use crate::records::Records;
 use csv::ByteRecord;
-use row_values::{Column, Kind, OutOfMemory, Value, Words};
+use row_values::{Column, Kind, OutOfMemory, Value, Words, whole_number};
 use std::alloc::Global;
 use std::str;
 

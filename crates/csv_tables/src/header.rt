@@ -1,6 +1,6 @@
-//! The header of a file: a name for each column, and the kind that it marks, if any.
+//! The header of a file: a name for each column, and the kind that it tags, if any.
 //!
-//! A header cell `x:int` or `x:text` names x and marks its kind, every other cell is a name alone. The one way in is
+//! A header cell `x:int` or `x:text` names x and tags its kind, every other cell is a name alone. The one way in is
 //! `read_header`.
 ghost use Rattle.std.specs.Prelude.{◌≡◌, ◌≢◌, ◌≤◌, [], IfErr, IfOk, None, Some, length, map, option_map};
 ghost use Rattle.std.specs.List.{list_any};
@@ -8,7 +8,7 @@ ghost use Rattle.std.specs.Str.{bytes_eq};
 ghost use Rattle.csv.specs.Records.{fields_of};
 ghost use Rattle.row_values.specs.declared.columns.TheConstants.{COLUMN_LIMIT};
 ghost use Rattle.csv_tables.specs.Cells as cells;
-ghost use Rattle.csv_tables.specs.Headers.{bad_name, heading_of, mark_of, name_of};
+ghost use Rattle.csv_tables.specs.Headers.{bad_name, heading_of, kind_tag_of, name_of};
 ghost use Rattle.csv_tables.specs.declared.faults.TableFault.TheVariants.{BadHeader, Memory};
 
 use crate::faults::TableFault;
@@ -21,7 +21,7 @@ use std::str;
 #[derive(Debug, Drop)]
 pub(crate) struct Heading {
     pub(crate) name: Words,
-    pub(crate) mark: Option<Kind>,
+    pub(crate) kind_tag: Option<Kind>,
 }
 
 /// The field in this column of a record, counted from 0; an empty one where the record is shorter.
@@ -34,10 +34,10 @@ pub(crate) fn field(row: &ByteRecord, column: usize) -> &[u8]
     }
 }
 
-/// The name in a header cell, and the kind that it marks.
+/// The name in a header cell, and the kind that it tags.
 fn parts(cell: &[u8]) -> (&[u8], Option<Kind>)
     ensures name { result.0.now ≡ name_of cell.now }
-    ensures mark { result.1 ≡ mark_of cell.now }
+    ensures kind_tag { result.1 ≡ kind_tag_of cell.now }
 {
     if let Some(name) = cell.strip_suffix(b":int") {
         return (name, Some(Kind::Int));
@@ -70,7 +70,7 @@ pub(crate) fn read_header(alloc: Global, row: &ByteRecord) -> Result<Vec<Heading
 {
     let mut headings = Vec::new(alloc);
     for column in 0..row.len() {
-        let (name, mark) = parts(field(row, column));
+        let (name, kind_tag) = parts(field(row, column));
         let fault = TableFault::BadHeader(column as u32 + 1);
         let Ok(name) = str::from_utf8(name) else {
             return Err(fault);
@@ -83,7 +83,7 @@ pub(crate) fn read_header(alloc: Global, row: &ByteRecord) -> Result<Vec<Heading
         }
         headings.push(Heading {
             name: Words::of(alloc, name)?,
-            mark,
+            kind_tag,
         })?;
     }
     Ok(headings)

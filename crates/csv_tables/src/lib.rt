@@ -6,7 +6,6 @@
 mod cells;
 mod faults;
 mod header;
-mod numbers;
 mod packed;
 mod read;
 mod records;

@@ -1,6 +1,6 @@
 //! Reading a table: its shape, its header, a survey of its rows, and only then their cells.
 //!
-//! The bytes are read three times, since most faults and the kind of a column without a mark are known at the last
+//! The bytes are read three times, since most faults and the kind of a column without a tag are known at the last
 //! row alone. Nothing is kept before the last reading, so that what is refused costs no memory. The one way in is
 //! `read_table`.
 ghost use Rattle.std.specs.Prelude.{◌≡◌, ◌≢◌, ◌≤◌, ◌∷◌, ◌*◌, [], nat_lt, Err, IfErr, IfOk, IfSome, List, Ok, length, option_map, ℕ};
@@ -22,11 +22,11 @@ use csv::ByteRecord;
 use row_values::{COLUMN_LIMIT, Column, Kind, OutOfMemory, Schema};
 use std::alloc::Global;
 
-/// The kind of a column with this mark, which holds numbers alone or not.
-fn kind(mark: Option<Kind>, is_number: bool) -> Kind
-    ensures { result ≡ kind_by mark is_number }
+/// The kind of a column with this tag, which holds numbers alone or not.
+fn kind(kind_tag: Option<Kind>, is_number: bool) -> Kind
+    ensures { result ≡ kind_by kind_tag is_number }
 {
-    match mark {
+    match kind_tag {
         Some(kind) => kind,
         None => { if is_number { Kind::Int } else { Kind::Text } }
     }
@@ -43,7 +43,7 @@ fn columns(alloc: Global, headings: &[Heading], survey: &Survey) -> Result<Vec<C
         let is_number = survey.row_count != 0 && survey.numbers.as_slice()[column];
         columns.push(Column {
             name: heading.name.copy(alloc)?,
-            kind: kind(heading.mark, is_number),
+            kind: kind(heading.kind_tag, is_number),
         })?;
     }
     Ok(columns)
@@ -92,8 +92,8 @@ fn build(
 
 /// The table that bytes of CSV spell, or the first fault that they have; see `TableFault` for the order.
 ///
-/// The first record is the header. A header cell `x:int` or `x:text` names a column and marks its kind; a column
-/// without a mark is INT exactly where there is a data row and each of its cells is a whole number.
+/// The first record is the header. A header cell `x:int` or `x:text` names a column and tags its kind; a column
+/// without a tag is INT exactly where there is a data row and each of its cells is a whole number.
 pub fn read_table(alloc: Global, bytes: &[u8]) -> Result<Table, TableFault>
     ensures table { IfOk result (λ table. table_of bytes.now ≡ Ok table) }
     ensures fault { IfErr result (λ fault. fault ≢ Memory → table_of bytes.now ≡ Err fault) }

@@ -10,9 +10,9 @@ ghost use Rattle.csv_tables.specs.Reading.{records_of};
 ghost use Rattle.csv_tables.specs.Shapes.{IsShape, end_of, state_at};
 ghost use Rattle.csv_tables.specs.Tallies.{noted, total_of};
 
-/// Where in a record the next byte stands.
+/// Where in a record the scan stands.
 #[derive(Clone, Copy, Debug, PartialEq, Eq)]
-enum Place {
+enum ScanState {
     StartRecord,
     StartField,
     InField,
@@ -39,67 +39,67 @@ pub(crate) struct Shape {
 }
 
 /// A byte within a field without quotes.
-fn after_plain(byte: u8) -> (Place, End)
-    ensures place { state_at result.0 ≡ (in_field default_config byte).0 }
+fn after_plain(byte: u8) -> (ScanState, End)
+    ensures state { state_at result.0 ≡ (in_field default_config byte).0 }
     ensures end { result.1 ≡ end_of (in_field default_config byte).1 }
 {
     match byte {
-        b',' => (Place::StartField, End::Field),
-        b'\r' => (Place::AfterReturn, End::Record),
-        b'\n' => (Place::StartRecord, End::Record),
-        _ => (Place::InField, End::Nothing),
+        b',' => (ScanState::StartField, End::Field),
+        b'\r' => (ScanState::AfterReturn, End::Record),
+        b'\n' => (ScanState::StartRecord, End::Record),
+        _ => (ScanState::InField, End::Nothing),
     }
 }
 
 /// A byte at the start of a field.
-fn after_field_start(byte: u8) -> (Place, End)
-    ensures place { state_at result.0 ≡ (start_field default_config byte).0 }
+fn after_field_start(byte: u8) -> (ScanState, End)
+    ensures state { state_at result.0 ≡ (start_field default_config byte).0 }
     ensures end { result.1 ≡ end_of (start_field default_config byte).1 }
 {
     if byte == b'"' {
-        return (Place::InQuoted, End::Nothing);
+        return (ScanState::InQuoted, End::Nothing);
     }
     after_plain(byte)
 }
 
 /// A byte at the start of a record: blank lines are no records.
-fn after_record_start(byte: u8) -> (Place, End)
-    ensures place { state_at result.0 ≡ (start_record default_config byte).0 }
+fn after_record_start(byte: u8) -> (ScanState, End)
+    ensures state { state_at result.0 ≡ (start_record default_config byte).0 }
     ensures end { result.1 ≡ end_of (start_record default_config byte).1 }
 {
     if byte == b'\r' {
-        return (Place::StartRecord, End::Nothing);
+        return (ScanState::StartRecord, End::Nothing);
     }
     if byte == b'\n' {
-        return (Place::StartRecord, End::Nothing);
+        return (ScanState::StartRecord, End::Nothing);
     }
     after_field_start(byte)
 }
 
 /// Where a byte leads, and what it ends.
-fn after_byte(place: Place, byte: u8) -> (Place, End)
-    ensures place { state_at result.0 ≡ (step default_config (state_at place) byte).0 }
-    ensures end { result.1 ≡ end_of (step default_config (state_at place) byte).1 }
+fn after_byte(state: ScanState, byte: u8) -> (ScanState, End)
+    ensures state { state_at result.0 ≡ (step default_config (state_at state) byte).0 }
+    ensures end { result.1 ≡ end_of (step default_config (state_at state) byte).1 }
 {
-    match place {
-        Place::StartRecord => after_record_start(byte),
-        Place::StartField => after_field_start(byte),
-        Place::InField => after_plain(byte),
-        Place::InQuoted => {
+    match state {
+        ScanState::StartRecord => after_record_start(byte),
+        ScanState::StartField => after_field_start(byte),
+        ScanState::InField => after_plain(byte),
+        ScanState::InQuoted => {
             if byte == b'"' {
-                return (Place::AfterQuote, End::Nothing);
+                return (ScanState::AfterQuote, End::Nothing);
             }
-            (Place::InQuoted, End::Nothing)
+            (ScanState::InQuoted, End::Nothing)
         }
-        Place::AfterQuote => {
+        ScanState::AfterQuote => {
             if byte == b'"' {
-                return (Place::InQuoted, End::Nothing);
+                return (ScanState::InQuoted, End::Nothing);
             }
             after_plain(byte)
         }
-        Place::AfterReturn => {
+        ScanState::AfterReturn => {
             if byte == b'\n' {
-                return (Place::StartRecord, End::Nothing);
+                return (ScanState::StartRecord, End::Nothing);
             }
             after_record_start(byte)
         }
@@ -107,16 +107,16 @@ fn after_byte(place: Place, byte: u8) -> (Place, End)
 }
 
 /// Whether the end of a file ends a record.
-fn is_inside(place: Place) -> bool
-    ensures { result ≡ ends_at_end (state_at place) }
+fn is_inside(state: ScanState) -> bool
+    ensures { result ≡ ends_at_end (state_at state) }
 {
-    match place {
-        Place::StartRecord => false,
-        Place::AfterReturn => false,
-        Place::StartField => true,
-        Place::InField => true,
-        Place::InQuoted => true,
-        Place::AfterQuote => true,
+    match state {
+        ScanState::StartRecord => false,
+        ScanState::AfterReturn => false,
+        ScanState::StartField => true,
+        ScanState::InField => true,
+        ScanState::InQuoted => true,
+        ScanState::AfterQuote => true,
     }
 }
 
@@ -159,11 +159,11 @@ fn without_mark(bytes: &[u8]) -> &[u8]
     }
 }
 
-/// What was counted up to a byte: the records before it, its place, and the fields that ended before it in its record.
+/// What was counted up to a byte: the records before it, its state, and the fields that ended before it in its record.
 #[derive(Clone, Copy, Debug)]
 struct Count {
     shape: Shape,
-    place: Place,
+    state: ScanState,
     field_count: usize,
 }
 
@@ -176,21 +176,21 @@ impl Count {
         ensures rows { result.shape.row_count ≤ self.shape.row_count + 1 }
         ensures fields { result.field_count ≤ self.field_count + 1 }
     {
-        let (place, end) = after_byte(self.place, byte);
+        let (state, end) = after_byte(self.state, byte);
         match end {
             End::Nothing => Count {
                 shape: self.shape,
-                place,
+                state,
                 field_count: self.field_count,
             },
             End::Field => Count {
                 shape: self.shape,
-                place,
+                state,
                 field_count: self.field_count + 1,
             },
             End::Record => Count {
                 shape: self.shape.with(self.field_count + 1),
-                place,
+                state,
                 field_count: 0,
             },
         }
@@ -207,14 +207,14 @@ pub(crate) fn shape_of(bytes: &[u8]) -> Shape
             row_count: 0,
             uneven: None,
         },
-        place: Place::StartRecord,
+        state: ScanState::StartRecord,
         field_count: 0,
     };
     let bytes = without_mark(bytes);
     for byte in bytes {
         count = count.with(*byte);
     }
-    if is_inside(count.place) {
+    if is_inside(count.state) {
         return count.shape.with(count.field_count + 1);
     }
     count.shape

@@ -12,10 +12,9 @@ ghost use Rattle.csv_tables.specs.Surveys.{IsNew, IsSurvey, Notes, numbers_after
 ghost use Rattle.csv_tables.specs.declared.table.TheConstants.{ROW_LIMIT};
 
 use crate::header::{Heading, field};
-use crate::numbers::whole_number;
 use crate::records::Records;
 use csv::ByteRecord;
-use row_values::{Kind, OutOfMemory};
+use row_values::{Kind, OutOfMemory, whole_number};
 use std::alloc::Global;
 use std::str;
 
@@ -42,14 +41,14 @@ fn is_text(is_number: bool, text: &[u8]) -> bool
     }
 }
 
-/// Whether a cell may stand under a heading with this mark. It notes whether its column still holds nothing but numbers.
-fn note_cell(mark: Option<Kind>, numbers: &mut bool, text: &[u8]) -> bool
+/// Whether a cell may stand under a heading with this tag. It notes whether its column still holds nothing but numbers.
+fn note_cell(kind_tag: Option<Kind>, numbers: &mut bool, text: &[u8]) -> bool
     ensures numbers { numbers.new ≡ (numbers.old && is_whole_number text.now) }
-    ensures stands { result ≡ may_stand mark text.now }
+    ensures stands { result ≡ may_stand kind_tag text.now }
 {
     let is_number = whole_number(text).is_some();
     *numbers = *numbers && is_number;
-    match mark {
+    match kind_tag {
         Some(Kind::Int) => is_number,
         Some(Kind::Text) => is_text(is_number, text),
         None => is_text(is_number, text),
@@ -66,7 +65,7 @@ fn note_cells(headings: &[Heading], numbers: &mut [bool], row: &ByteRecord) -> O
 {
     let mut bad = None;
     for (column, heading) in headings.iter().enumerate() {
-        let stands = note_cell(heading.mark, &mut numbers[column], field(row, column));
+        let stands = note_cell(heading.kind_tag, &mut numbers[column], field(row, column));
         if !stands && bad.is_none() {
             bad = Some(column as u32 + 1);
         }

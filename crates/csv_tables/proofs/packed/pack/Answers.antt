@@ -10,14 +10,17 @@ use Rattle.csv_tables.proofs.packed.pack.Goals.{in-Int+in_ok-pack_column-in-Int+
 pub loop-column-preserved : goal.loop-column-preserved
 loop-column-preserved c = elim c.match-this.branch [
   | in-Int+in_ok-pack_column-in-Int+in_ok-push-in-Int w ↦
-      rw (w.packed-is, w.in_ok-push-in-Int.ensures.items, map_push (λ numbers. numbers.items) c.loop-column.packed.items w.in_ok-pack_column-in-Int.field-0)
+      rw
+      (w.packed-is, w.in_ok-push-in-Int.ensures.items, map_push (λ numbers. numbers.items) c.loop-column.packed.items w.in_ok-pack_column-in-Int.field-0)
       (packed_more _ _ _ _ c.loop-column.invariant (λ _. w.in_ok-pack_column-in-Int.ensures))
   | in-Text+in_ok-push-in-Text w ↦
-      rw (w.packed-is, w.in_ok-push-in-Text.ensures.items, map_push (λ numbers. numbers.items) c.loop-column.packed.items w.new.result)
+      rw
+      (w.packed-is, w.in_ok-push-in-Text.ensures.items, map_push (λ numbers. numbers.items) c.loop-column.packed.items w.new.result)
       (packed_more _ _ _ _ c.loop-column.invariant (λ is. absurd (is_text c w.in-Text.is is)))
 ]
   where
-    is_text : (c : goal.Joined-this) → c.this-item.result.kind ≡ kind.Text → slice_get (column_kinds c.args.schema.now) c.loop-column.column ≡ Some kind.Int → ⊥
+    is_text : (c : goal.Joined-this) → c.this-item.result.kind ≡ kind.Text
+        → slice_get (column_kinds c.args.schema.now) c.loop-column.column ≡ Some kind.Int → ⊥
     is_text c text number =
         let width = c.columns-this-items.ensures.value in
         let item = rw width at c.this-item.is in

@@ -27,7 +27,8 @@ loop-row-preserved c =
     let read = rw width at c.index-cells-row.is in
     let at = slice_get_read c.args.cells.now _ _ c.index-cells-row.result refl place read ∙ ap Some c.in-Int.is in
     let fits : SFits w64 c.in-Int.number = search rules in
-    rw (c.in_ok-push-in-Int.ensures.items, to_z-of_z w64 c.in-Int.number fits) (read_more _ _ _ _ _ _ c.loop-row.invariant (rw width at))
+    rw (c.in_ok-push-in-Int.ensures.items, to_z-of_z w64 c.in-Int.number fits)
+    (read_more _ _ _ _ _ _ c.loop-row.invariant (rw width at))
 
 pub returns : goal.returns
 returns c =

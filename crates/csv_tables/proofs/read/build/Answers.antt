@@ -26,7 +26,8 @@ of-requires-2 c =
     let k = built c.args.bytes.now c.args.headings.now c.args.survey.now c.in_ok-columns.columns.items c.in_ok-next.field-0 (fields_of c.next.new.row) c.next.new.self
     c.requires (c.in_ok-columns.ensures c.requires.rows c.requires.survey_is) (sym c.of-records.ensures ∙ c.in_ok-next.ensures) in
     let schema = rw c.unwrap-schema.ensures at c.of.ensures.value in
-    kept c.args.bytes.now c.args.headings.now c.args.survey.now c.in_ok-columns.columns.items c.unwrap-schema.result c.deref.result.now c.in_ok-cells.cells.items c.next.new.self k
+    kept c.args.bytes.now c.args.headings.now c.args.survey.now c.in_ok-columns.columns.items c.unwrap-schema.result
+    c.deref.result.now c.in_ok-cells.cells.items c.next.new.self k
     (record { schema_is = schema; slice_is = c.deref.ensures.value; items_are = c.in_ok-cells.ensures })
 
 pub returns : goal.returns
@@ -34,5 +35,6 @@ returns c =
     let k = built c.args.bytes.now c.args.headings.now c.args.survey.now c.in_ok-columns.columns.items c.in_ok-next.field-0 (fields_of c.next.new.row) c.next.new.self
     c.requires (c.in_ok-columns.ensures c.requires.rows c.requires.survey_is) (sym c.of-records.ensures ∙ c.in_ok-next.ensures) in
     let schema = rw c.unwrap-schema.ensures at c.of.ensures.value in
-    rw c.in_ok-table.ensures (spells c.args.bytes.now c.args.headings.now c.args.survey.now c.in_ok-columns.columns.items c.unwrap-schema.result c.deref.result.now c.in_ok-cells.cells.items c.next.new.self k
+    rw c.in_ok-table.ensures
+    (spells c.args.bytes.now c.args.headings.now c.args.survey.now c.in_ok-columns.columns.items c.unwrap-schema.result c.deref.result.now c.in_ok-cells.cells.items c.next.new.self k
     (record { schema_is = schema; slice_is = c.deref.ensures.value; items_are = c.in_ok-cells.ensures }))

@@ -11,7 +11,8 @@ use Rattle.csv_tables.proofs.read.read_table.Goals as goal
 
 pub returns-in_default-clause-fault : goal.returns-in_default-clause-fault
 returns-in_default-clause-fault c _ =
-    no_header c.args.bytes.now (none_counted (records_of c.args.bytes.now) c.shape_of-shape.result c.shape_of-shape.ensures c.in_default.is)
+    no_header c.args.bytes.now
+    (none_counted (records_of c.args.bytes.now) c.shape_of-shape.result c.shape_of-shape.ensures c.in_default.is)
 
 pub returns-then-column_count-gt-COLUMN_LIMIT-clause-fault : goal.returns-then-column_count-gt-COLUMN_LIMIT-clause-fault
 returns-then-column_count-gt-COLUMN_LIMIT-clause-fault c _ =
@@ -43,7 +44,8 @@ fault_of_shape-requires-clause-uneven c =
     let first = first_read (records_of c.args.bytes.now) c.shape_of-shape.result c.in-Some.column_count c.in_ok-next.field-0 (fields_of c.next.new.row) c.next.new.self headed
     (sym c.of-records.ensures ∙ c.in_ok-next.ensures) in
     let few = rw first.width_is at c.if-column_count-gt-COLUMN_LIMIT.false in
-    rw first.shape_is.row_count (uneven_fits (length (fields_of c.next.new.row)) c.next.new.self c.shape_of-shape.result.uneven (sym first.shape_is.uneven))
+    rw first.shape_is.row_count
+    (uneven_fits (length (fields_of c.next.new.row)) c.next.new.self c.shape_of-shape.result.uneven (sym first.shape_is.uneven))
 
 pub returns-in-Some-fault_of_shape-clause-fault : goal.returns-in-Some-fault_of_shape-clause-fault
 returns-in-Some-fault_of_shape-clause-fault c _ =
@@ -113,4 +115,5 @@ build-requires c =
       shape = none;
     } in
     let found = rw c.deref.ensures.value at c.in_ok-survey.ensures in
-    rw c.deref-2.ensures.value (sound_file c.args.bytes.now (fields_of c.next.new.row) c.next.new.self c.in_ok-headings.headings.items c.in_ok-survey.survey file found c.in_default-bad_cell.is)
+    rw c.deref-2.ensures.value
+    (sound_file c.args.bytes.now (fields_of c.next.new.row) c.next.new.self c.in_ok-headings.headings.items c.in_ok-survey.survey file found c.in_default-bad_cell.is)

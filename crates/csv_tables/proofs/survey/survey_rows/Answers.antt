@@ -8,6 +8,8 @@ loop-preserved c =
     let was = rw c.if-not-branch.false at c.in_ok-next.ensures in
     record {
       count = c.note.ensures.row_count ∙ ap (λ n. n + 1) c.loop.invariant.count;
-      rest = step c.args.headings.now c.args.records.now c.next.new.self (fields_of c.next.new.row) c.loop.survey c.note.new.self
+      rest =
+          step c.args.headings.now c.args.records.now c.next.new.self (fields_of c.next.new.row) c.loop.survey
+          c.note.new.self
           (rw was at c.loop.invariant.rest) c.note.ensures;
     }
