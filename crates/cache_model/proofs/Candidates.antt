@@ -1,7 +1,8 @@
 -- The candidates are the anchors of the list, the nearest first.
-use Rattle.std.proofs.Common.{ℕ, suc, ◌≡◌, ◌≤◌, ◌<◌, ◌+◌, ◌*◌, ◌⊎◌, inl, inr, min, Bool, true, false, cond, List, [], ◌∷◌, length, slice_get, All, Option, Some, ap, ◌∙◌, refl, arith, mul_assoc, mul_comm, mul-le-mul, mul-le-mul_right, add-mul}
+use Rattle.std.proofs.Common.{ℕ, suc, ◌≡◌, ◌≤◌, ◌<◌, ◌+◌, ◌*◌, inl, inr, min, Bool, true, false, cond, List, [], ◌∷◌, length, slice_get, All, Option, Some, ap, ◌∙◌, refl, arith, mul-le-mul, mul-le-mul_right}
 use Rattle.std.specs.List.{AllByRecursion}
-use Rattle.std.proofs.lemmas.Bool.{cases_lt, le-ltb, ltb-false, ltb-true}
+use Rattle.std.proofs.lemmas.Bool.{le-ltb, ltb-false, ltb-true}
+use Rattle.cost_model.proofs.CheckBounds.{divided, order_five}
 use Rattle.cache_model.specs.Caches.{Anchor}
 use Rattle.cache_model.specs.Choices.{Candidate, by_nearness, greater_product, is_nearer, lesser_product, placed_from, put_in_order}
 use Rattle.cache_model.specs.Laws.{AreByNearness, ComesBefore}
@@ -38,26 +39,16 @@ each_in_order P instance (candidate ∷ candidates) h = each_put P instance cand
 
 -- Nearness is an order, where no number is 0.
 
-turned : (a b c : ℕ) → a * b * c ≡ a * c * b
-turned a b c = grind (arith, mul_assoc, mul_comm)
-
-divided_by : (x y g : ℕ) → 1 ≤ g → x * g ≤ y * g → (y < x) ⊎ (x ≤ y) → x ≤ y
-divided_by x y g some h (inr less) = less
-divided_by x y g some h (inl more) =
-    let a : (y + 1) * g ≤ x * g = mul-le-mul_right g (omega arith) in
-    let b = add-mul y 1 g in
-    absurd (omega arith)
-
 -- of three ratios the first is at most the third, where no middle divisor is 0
 ratios_rise : (n d m e k f : ℕ) → 1 ≤ e → n * e ≤ m * d → m * f ≤ k * e → n * f ≤ k * d
 ratios_rise n d m e k f some first second =
     let a : n * e * f ≤ m * d * f = mul-le-mul_right f first in
     let b : m * f * d ≤ k * e * d = mul-le-mul_right d second in
-    let g = turned n e f in
-    let h = turned m d f in
-    let j = turned k e d in
+    let g = order_five n e f in
+    let h = order_five m d f in
+    let j = order_five k e d in
     let both : n * f * e ≤ k * d * e = omega arith in
-    divided_by (n * f) (k * d) e some both (cases_lt (k * d) (n * f))
+    divided (n * f) (k * d) e some both
 
 no_farther : (instance : List ℕ) (a b : Candidate) → ComesBefore instance a b → is_nearer instance b.anchor a.anchor ≡ false
 no_farther instance a b (inl near) =

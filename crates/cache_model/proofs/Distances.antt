@@ -3,29 +3,11 @@ use Rattle.std.proofs.Common.{ℕ, ◌≡◌, ◌≤◌, ◌<◌, ◌+◌, ◌*�
 use Rattle.std.proofs.lemmas.Bool.{and_right, lt-leb, ltb-false, ltb-true}
 use Rattle.fraction_math.specs.Fraction.{Fraction}
 use Rattle.cost_polynomials.specs.Growth.{grown_to, grown_from, shrunk_to, shrunk_from}
+use Rattle.cost_polynomials.proofs.Growth.{from_below_to}
+use Rattle.cost_model.proofs.CheckBounds.{to_some}
 use Rattle.cache_model.specs.Caches.{Anchor}
 use Rattle.cache_model.specs.Choices.{is_at_most_in_128, passes_selectivity_check}
 use Rattle.cache_model.specs.Laws.{IsOutside}
-
--- What has grown is more than it was.
-
-new_is_more : (b : Bool) (x y : ℕ) → nat_lt y x ≡ b → (if b then y else 1) ≤ (if b then x else 1)
-new_is_more true x y e = let less = ltb-true y x e in omega arith
-new_is_more false x y e = omega arith
-
-grown_more : (xs ys : List ℕ) → grown_from xs ys ≤ grown_to xs ys
-grown_more [] ys = omega arith
-grown_more (x ∷ xs) [] = omega arith
-grown_more (x ∷ xs) (y ∷ ys) = mul-le-mul (new_is_more (nat_lt y x) x y refl) (grown_more xs ys)
-
-new_is_some : (b : Bool) (x y : ℕ) → nat_lt y x ≡ b → 1 ≤ (if b then x else 1)
-new_is_some true x y e = let less = ltb-true y x e in omega arith
-new_is_some false x y e = omega arith
-
-grown_some : (xs ys : List ℕ) → 1 ≤ grown_to xs ys
-grown_some [] ys = omega arith
-grown_some (x ∷ xs) [] = omega arith
-grown_some (x ∷ xs) (y ∷ ys) = mul-le-mul {n₁ = 1} {m₁ = 1} (new_is_some (nat_lt y x) x y refl) (grown_some xs ys)
 
 -- The first numbers, where they differ.
 
@@ -84,8 +66,8 @@ first_outside num den cost least x y xs ys more some dear outside =
     let other = outside_differs num den x y more outside in
     let up = greater_first (nat_lt y x) (nat_lt x y) x y refl refl other in
     let down = lesser_first (nat_lt y x) (nat_lt x y) x y refl refl other in
-    let rest : grown_from xs ys * grown_from ys xs ≤ grown_to xs ys * grown_to ys xs = mul-le-mul (grown_more xs ys) (grown_more ys xs) in
-    let one : 1 ≤ grown_to xs ys * grown_to ys xs = mul-le-mul {n₁ = 1} {m₁ = 1} (grown_some xs ys) (grown_some ys xs) in
+    let rest : grown_from xs ys * grown_from ys xs ≤ grown_to xs ys * grown_to ys xs = mul-le-mul (from_below_to xs ys) (from_below_to ys xs) in
+    let one : 1 ≤ grown_to xs ys * grown_to ys xs = mul-le-mul {n₁ = 1} {m₁ = 1} (to_some xs ys) (to_some ys xs) in
     let costly : 1 ≤ cost = omega arith in
     further cost least num den (if nat_lt y x then x else 1) (if nat_lt x y then y else 1) (if nat_lt y x then y else 1) (if nat_lt x y then x else 1) (grown_to xs ys) (grown_from xs ys) (grown_to ys xs) (grown_from ys xs) (min x y) (max x y) up down outside
     (mul-le-mul dear rest) (mul-le-mul {n₁ = 1} {m₁ = 1} costly one)

@@ -1,6 +1,5 @@
 -- Worked by computation: caches of small statements over a thousand rows, with an index on each column.
 use Rattle.std.specs.Prelude.{ℕ, ◌≡◌, ◌*◌, ◌-◌, ◌^◌, false, List, [], ◌∷◌, codes, map, replicate, Some, refl}
-use Rattle.std.specs.Fmt.{digits as number_digits}
 use Rattle.fraction_math.specs.Fraction.{Fraction}
 use Rattle.row_values.specs.Statements.{Statement, statement_of}
 use Rattle.row_values.specs.declared.columns.Column.{Column}
@@ -15,10 +14,10 @@ use Rattle.plan_trees.specs.PlanSpace.{column_of}
 use Rattle.plan_trees.specs.Statistics.{Statistics}
 use Rattle.plan_trees.specs.Trees.{TopTree, Base, Rows}
 use Rattle.cost_model.specs.Costs.{top_cost, digits, digits_within}
-use Rattle.cost_model.specs.declared.scale.TheConstants.{COST_SCALE}
+use Rattle.plan_trees.specs.declared.scale.TheConstants.{COST_SCALE}
 use Rattle.cache_model.specs.Caches.{CacheState, empty_cache, reused}
 use Rattle.cache_model.specs.Choices.{BySelectivity, ByCost, ByOptimum, Choice, choice_of, passes_selectivity_check}
-use Rattle.cache_model.specs.Keeping.{Keeping, KeptNew, KeptNothing, KeptOld, Optimum, is_same_plan, kept_after}
+use Rattle.cache_model.specs.Keeping.{Keeping, KeptNew, KeptNothing, KeptOld, Optimum, kept_after}
 
 abbrev usual_weights : Weights
 usual_weights = record { row = 1; fetch = 2; probe = 1; hash = 2; sort = 1; out = 1 }
@@ -77,21 +76,21 @@ nothing_cached : choice_at empty_cache 100 ≡ ByOptimum 0
 nothing_cached = refl
 
 new_plan : at_100.kept ≡ KeptNew 1
-unfolding digits digits_within number_digits is_same_plan
+unfolding digits digits_within
 new_plan = refl
 
 reuse_by_selectivity : choice_at at_100.cache 150 ≡ BySelectivity 0
-unfolding digits digits_within number_digits is_same_plan
+unfolding digits digits_within
 reuse_by_selectivity = refl
 
 -- the anchor has then served two executions
 reuse_counts : map (λ anchor. anchor.uses) (reused at_100.cache 0).anchors ≡ 2 ∷ []
-unfolding digits digits_within number_digits is_same_plan
+unfolding digits digits_within
 reuse_counts = refl
 
 -- Shrinking counts: at 4 both checks fail, since 18 * 100 is more than 2 * 210 * 4, though the range costs less there.
 shrinking_counts : choice_at at_100.cache 4 ≡ ByOptimum 1
-unfolding digits digits_within number_digits is_same_plan
+unfolding digits digits_within
 shrinking_counts = refl
 
 -- Reuse by cost: optimised at 1, then at 4. The selectivity check fails, 12 * 4 against 2 * 12; the cost check passes, 18
@@ -101,11 +100,11 @@ abbrev at_1 : Keeping
 at_1 = keeping empty_cache 256 (optimum_of 1 (1 ∷ []) range 12)
 
 selectivity_fails_at_4 : map (passes_selectivity_check two (4 ∷ [])) at_1.cache.anchors ≡ false ∷ []
-unfolding digits digits_within number_digits is_same_plan
+unfolding digits digits_within
 selectivity_fails_at_4 = refl
 
 reuse_by_cost : choice_at at_1.cache 4 ≡ ByCost 0 1
-unfolding digits digits_within number_digits is_same_plan
+unfolding digits digits_within
 reuse_by_cost = refl
 
 -- Redundant plan: at 250 both checks fail and the range is the plan again; at 600 all rows are read, but the range costs
@@ -118,44 +117,44 @@ abbrev at_600 : Keeping
 at_600 = keeping at_250.cache 256 (optimum_of 3 (600 ∷ []) all_rows 1000)
 
 optimised_at_250 : choice_at at_100.cache 250 ≡ ByOptimum 1
-unfolding digits digits_within number_digits is_same_plan
+unfolding digits digits_within
 optimised_at_250 = refl
 
 same_plan : at_250.kept ≡ KeptOld 1
-unfolding digits digits_within number_digits is_same_plan
+unfolding digits digits_within
 same_plan = refl
 
 optimised_at_600 : choice_at at_250.cache 600 ≡ ByOptimum 2
-unfolding digits digits_within number_digits is_same_plan
+unfolding digits digits_within
 optimised_at_600 = refl
 
 redundant_plan : at_600.kept ≡ KeptOld 1
-unfolding digits digits_within number_digits is_same_plan
+unfolding digits digits_within
 redundant_plan = refl
 
 -- Reuse within the bound: at 700 by the third anchor, since 1210 * 700 is at most 2 * 1000 * 600. The anchor's own cost
 -- counts: at 1000 it fails, 1210 * 1000 against 1,200,000, and so does each cost check, the nearest by 2010 against 2000.
 
 within_bound : choice_at at_600.cache 700 ≡ BySelectivity 2
-unfolding digits digits_within number_digits is_same_plan
+unfolding digits digits_within
 within_bound = refl
 
 own_cost_counts : choice_at at_600.cache 1000 ≡ ByOptimum 3
-unfolding digits digits_within number_digits is_same_plan
+unfolding digits digits_within
 own_cost_counts = refl
 
 kept_at_1000 : (keeping at_600.cache 256 (optimum_of 4 (1000 ∷ []) all_rows 1000)).kept ≡ KeptNew 2
-unfolding digits digits_within number_digits is_same_plan
+unfolding digits digits_within
 kept_at_1000 = refl
 
 -- the nearest is tried first: at 300 the anchor at 250, which stands second and lets the range through by 610 against 510
 nearest_first : choice_of at_250.cache narrow thousand (300 ∷ []) (record { num = 599; den = 500 }) 1 ≡ ByCost 1 1
-unfolding digits digits_within number_digits is_same_plan
+unfolding digits digits_within
 nearest_first = refl
 
 -- Budget: with room for one plan, the range goes with its anchor for reading all rows.
 one_plan_alone : (keeping at_100.cache 1 (optimum_of 2 (1000 ∷ []) all_rows 1000)).evicted ≡ Some (record { plan = 1; anchors = 1 })
-unfolding digits digits_within number_digits is_same_plan
+unfolding digits digits_within
 one_plan_alone = refl
 
 -- Full cache: with 4096 anchors nothing is kept, not even of a plan that is there; with one less an anchor is.
@@ -168,11 +167,11 @@ with_anchors count = record {
 }
 
 full_cache : (keeping (with_anchors 4096) 256 (optimum_of 2 (250 ∷ []) range 510)).kept ≡ KeptNothing
-unfolding with_anchors digits digits_within number_digits is_same_plan
+unfolding with_anchors digits digits_within
 full_cache = refl
 
 room_for_one : (keeping (with_anchors 4095) 256 (optimum_of 2 (250 ∷ []) range 510)).kept ≡ KeptOld 1
-unfolding with_anchors digits digits_within number_digits is_same_plan
+unfolding with_anchors digits digits_within
 room_for_one = refl
 
 -- Overflowing check: with the greatest ratio of parts below 2 ^ 63 the right side of both checks passes 2 ^ 128.
@@ -181,7 +180,7 @@ abbrev forty_thousand : Statistics
 forty_thousand = record { rows = 40000 ∷ []; fixed = 40000 ∷ []; matching = 1 ∷ []; distinct = []; fans = (1 ∷ []) ∷ []; indexed = 0 ∷ []; weights = usual_weights }
 
 overflow_fails : choice_of (kept_after empty_cache narrow forty_thousand (optimum_of 1 (2000 ∷ []) all_rows 40000) seven_fifths 256).cache narrow forty_thousand (1000 ∷ []) (record { num = 2 ^ 63 - 1; den = 1 }) 16 ≡ ByOptimum 1
-unfolding digits digits_within number_digits is_same_plan
+unfolding digits digits_within
 overflow_fails = refl
 
 -- Least used: SELECT v FROM t WHERE v < ? AND w < ?, with room for two plans. The uses of the two ranges tie, and the one
@@ -204,10 +203,10 @@ two_ranges =
     (keeping_pair (keeping_pair empty_cache (optimum_of 1 (100 ∷ 1000 ∷ []) range 210)).cache (optimum_of 2 (1000 ∷ 100 ∷ []) range_on_w 210)).cache
 
 least_used_goes : (keeping_pair two_ranges (optimum_of 3 (1000 ∷ 1000 ∷ []) all_rows 1000)).evicted ≡ Some (record { plan = 1; anchors = 1 })
-unfolding digits digits_within number_digits is_same_plan
+unfolding digits digits_within
 least_used_goes = refl
 
 -- a use more saves it, and the other goes
 most_used_stays : (keeping_pair (reused two_ranges 0) (optimum_of 4 (1000 ∷ 1000 ∷ []) all_rows 1000)).evicted ≡ Some (record { plan = 2; anchors = 1 })
-unfolding digits digits_within number_digits is_same_plan
+unfolding digits digits_within
 most_used_stays = refl

@@ -10,6 +10,7 @@ use Rattle.cost_model.specs.Checks.{PassesSelectivityCheck, PassesCostCheck}
 use Rattle.cost_model.specs.Costs.{top_cost}
 use Rattle.cost_model.specs.Laws.{IsReuse}
 use Rattle.cost_model.proofs.Growth.{top_grows_within}
+use Rattle.cost_model.proofs.Products.{one_pick}
 use Rattle.cost_model.proofs.LeastGrowth.{least_grows_within}
 
 -- Numbers.
@@ -21,7 +22,7 @@ divided_by x y g some h (inl more) =
     let b = add-mul y 1 g in
     absurd (omega arith)
 
-divided : (x y g : ℕ) → 1 ≤ g → x * g ≤ y * g → x ≤ y
+pub divided : (x y g : ℕ) → 1 ≤ g → x * g ≤ y * g → x ≤ y
 divided x y g some h = divided_by x y g some h (cases_lt y x)
 
 order_one : (c f g d : ℕ) → c * f * (g * d) ≡ c * d * (f * g)
@@ -47,7 +48,7 @@ by_both cost before least known f t g k num den some more grows shrinks check =
     let one : 1 ≤ f * g = mul-le-mul {n₁ = 1} {m₁ = 1} some more in
     divided (cost * den) (num * least) (f * g) one (omega arith)
 
-order_five : (c g d : ℕ) → c * g * d ≡ c * d * g
+pub order_five : (c g d : ℕ) → c * g * d ≡ c * d * g
 order_five c g d = grind (arith, mul_assoc, mul_comm)
 
 order_six : (n l k : ℕ) → n * l * k ≡ l * k * n
@@ -66,10 +67,6 @@ by_one cost least known g k num den more shrinks check =
 
 -- Selectivities.
 
-old_some : (b : Bool) (y : ℕ) → 1 ≤ y → 1 ≤ (if b then y else 1)
-old_some true y h = h
-old_some false y h = omega arith
-
 new_some : (b : Bool) (x y : ℕ) → nat_lt y x ≡ b → 1 ≤ (if b then x else 1)
 new_some true x y e = let less : y < x = grind (arith, nat_tests) in omega arith
 new_some false x y e = omega arith
@@ -77,9 +74,9 @@ new_some false x y e = omega arith
 from_some : (xs ys : List ℕ) → All (λ n. 1 ≤ n) ys → 1 ≤ grown_from xs ys
 from_some [] ys h = omega arith
 from_some (x ∷ xs) [] h = omega arith
-from_some (x ∷ xs) (y ∷ ys) h = mul-le-mul {n₁ = 1} {m₁ = 1} (old_some (nat_lt y x) y (h 0 y (omega arith))) (from_some xs ys (λ k d less. h (suc k) d (omega arith)))
+from_some (x ∷ xs) (y ∷ ys) h = mul-le-mul {n₁ = 1} {m₁ = 1} (one_pick (nat_lt y x) y (h 0 y (omega arith))) (from_some xs ys (λ k d less. h (suc k) d (omega arith)))
 
-to_some : (xs ys : List ℕ) → 1 ≤ grown_to xs ys
+pub to_some : (xs ys : List ℕ) → 1 ≤ grown_to xs ys
 to_some [] ys = omega arith
 to_some (x ∷ xs) [] = omega arith
 to_some (x ∷ xs) (y ∷ ys) = mul-le-mul {n₁ = 1} {m₁ = 1} (new_some (nat_lt y x) x y refl) (to_some xs ys)

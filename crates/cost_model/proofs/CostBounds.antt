@@ -18,10 +18,11 @@ use Rattle.plan_trees.proofs.SoundParts.{access_in_range, step_in_range}
 use Rattle.cost_model.specs.Cardinalities.{card_of, kappa, product_over, selected_product, selected_rows, is_inside, distinct_product}
 use Rattle.cost_model.specs.Costs.{digits, rows_met, look_up_cost, access_unit, edge_fan, step_cost, join_cost, sort_cost, plan_cost, top_cost}
 use Rattle.cost_model.specs.Laws.{IsCost, CostsFit}
-use Rattle.cost_model.specs.declared.scale.TheConstants.{COST_SCALE}
+use Rattle.plan_trees.specs.declared.scale.TheConstants.{COST_SCALE}
 use Rattle.cost_model.proofs.Ceilings.{ceiling_times, ceiling_more, digits_small, digits_few}
 use Rattle.cost_model.proofs.Products.{Ones, beside, full_part, in_le, marked_one, one_of_all, part_of_all, part_widths, selected_le, selected_one, selected_powers, powers_widths, rows_widths, whole_part, widths, widths_ones}
-use Rattle.cost_model.proofs.Sets.{entering_new, set_of_plan}
+use Rattle.cost_model.proofs.Sets.{set_of_plan}
+use Rattle.plan_trees.proofs.ValidPlans.{entering_new}
 use Rattle.cost_model.proofs.SoundNumbers.{AreSized, are_sized}
 
 -- Cardinalities.

@@ -1,8 +1,7 @@
 -- Costs grow by no more than their selectivities: each cost is a sum of products in which a selectivity stands
 -- at most once.
-use Rattle.std.proofs.Common.{ℕ, zero, suc, ◌≡◌, ◌≤◌, ◌<◌, ◌+◌, ◌*◌, Bool, true, false, List, [], ◌∷◌, Some, map, length, take, get_or, slice_get, slice_index, nat_lt, if◌then◌else◌, ap, sym, ◌∙◌, refl, subst, subst₂, arith, mul_assoc, mul_comm, mul-add, add-mul, mul-le-mul, mul-le-mul_left, mul_left_comm, true≢false}
+use Rattle.std.proofs.Common.{ℕ, zero, suc, ◌≡◌, ◌<◌, ◌+◌, ◌*◌, Bool, true, false, List, [], ◌∷◌, Some, map, length, take, get_or, slice_get, slice_index, if◌then◌else◌, ap, sym, ◌∙◌, refl, subst, subst₂, arith, mul_assoc, mul_comm, mul-add, mul_left_comm, true≢false}
 use Rattle.std.specs.Option.{option_map, option_map_or}
-use Rattle.std.proofs.lemmas.Bool.Decides.{nat_tests}
 use Rattle.row_values.specs.Statements.{Statement, is_parameterised, selectivity_count}
 use Rattle.row_values.specs.declared.statement.ColRef.{ColRef}
 use Rattle.row_values.specs.declared.statement.Pred.{Pred}
@@ -16,57 +15,19 @@ use Rattle.plan_trees.specs.Statistics.{Statistics, selectivity_places}
 use Rattle.plan_trees.specs.Trees.{Tree, Base, Join, HashJoin, Sort, TopTree, Rows, SortedGroups, HashGroups, place_of, places_of}
 use Rattle.cost_model.specs.Cardinalities.{marked_product, selected_product, kappa, card_of}
 use Rattle.cost_polynomials.specs.Growth.{grown_to, grown_from}
+use Rattle.cost_polynomials.proofs.Growth.{Grows, cross, factor, from_below_to, grow_const, grow_sum, grow_times}
 use Rattle.cost_model.specs.Costs.{digits, rows_met, access_unit, step_cost, join_cost, plan_cost, top_cost}
 use Rattle.cost_model.specs.Laws.{GrowsWithin, IsVectorOf}
-use Rattle.cost_model.specs.declared.scale.TheConstants.{COST_SCALE}
+use Rattle.plan_trees.specs.declared.scale.TheConstants.{COST_SCALE}
 
--- Numbers that grow, x to y, by at most u to v.
-
-pub record Grows (u v x y : ℕ) : Type 0 where
-  pub grows : x * u ≤ y * v
-
-grow_sum : {u v x y z t : ℕ} → Grows u v x y → Grows u v z t → Grows u v (x + z) (y + t)
-grow_sum {u} {v} {x} {y} {z} {t} g h = record { grows = rw (add-mul x z u, add-mul y t v) (omega (arith, g.grows, h.grows)) }
-
-grow_times : {u v x y : ℕ} (k : ℕ) → Grows u v x y → Grows u v (k * x) (k * y)
-grow_times {u} {v} {x} {y} k g = record { grows = rw (mul_assoc k x u, mul_assoc k y v) (mul-le-mul_left k g.grows) }
+-- Products of marked selectivities.
 
 grow_times_right : {u v x y : ℕ} (k : ℕ) → Grows u v x y → Grows u v (x * k) (y * k)
 grow_times_right {u} {v} {x} {y} k g = subst₂ (λ x y. Grows u v x y) (mul_comm k x) (mul_comm k y) (grow_times k g)
 
-grow_same : {u v : ℕ} (k : ℕ) → u ≤ v → Grows u v k k
-grow_same k h = record { grows = mul-le-mul_left k h }
-
-swapped : (a p b q : ℕ) → (a * p) * (b * q) ≡ (a * b) * (p * q)
-swapped a p b q = mul_assoc a p (b * q) ∙ ap (λ n. a * n) (mul_left_comm p b q) ∙ sym (mul_assoc a b (p * q))
-
--- four factors, two by two
-cross : (a b c d p q r s : ℕ) → a * b ≤ c * d → p * q ≤ r * s → (a * p) * (b * q) ≤ (c * r) * (d * s)
-cross a b c d p q r s h k =
-    let e : (a * p) * (b * q) ≡ (a * b) * (p * q) = swapped a p b q in
-    let f : (c * r) * (d * s) ≡ (c * d) * (r * s) = swapped c r d s in
-    rw (e, f) (mul-le-mul h k)
-
--- Products of marked selectivities.
-
-lesser : (x y : ℕ) → (if nat_lt y x then y else 1) ≤ (if nat_lt y x then x else 1)
-lesser x y = grind (arith, nat_tests)
-
-grown_le : (x y : List ℕ) → grown_from x y ≤ grown_to x y
-grown_le [] y = omega arith
-grown_le (a ∷ x) [] = omega arith
-grown_le (a ∷ x) (b ∷ y) = mul-le-mul (lesser a b) (grown_le x y)
-
-factor_in : (x y : ℕ) → x * (if nat_lt y x then y else 1) ≤ y * (if nat_lt y x then x else 1)
-factor_in x y = grind (arith, nat_tests, mul_comm)
-
-factor : (m : Bool) (x y : ℕ) → (if m then x else 1) * (if nat_lt y x then y else 1) ≤ (if m then y else 1) * (if nat_lt y x then x else 1)
-factor true x y = factor_in x y
-factor false x y = omega (arith, lesser x y)
-
 grow_marked : (ms : List Bool) (x y : List ℕ) → length x ≡ length y → Grows (grown_from x y) (grown_to x y) (marked_product ms x) (marked_product ms y)
-grow_marked [] x y e = grow_same 1 (grown_le x y)
-grow_marked (m ∷ ms) [] [] e = grow_same 1 (grown_le [] [])
+grow_marked [] x y e = grow_const 1 (from_below_to x y)
+grow_marked (m ∷ ms) [] [] e = grow_const 1 (from_below_to [] [])
 grow_marked (m ∷ ms) [] (b ∷ y) e = absurd (omega arith)
 grow_marked (m ∷ ms) (a ∷ x) [] e = absurd (omega arith)
 grow_marked (m ∷ ms) (a ∷ x) (b ∷ y) e =
@@ -141,7 +102,7 @@ selectivity_of (pred ∷ preds) (suc j) at found parameterised =
 
 grow_rows : (x y : List ℕ) (n i : ℕ) (b : Bool) → length x ≡ length y → (b ≡ true → i < length x)
     → Grows (grown_from x y) (grown_to x y) (if b then slice_index x i else n) (if b then slice_index y i else n)
-grow_rows x y n i false e within = grow_same n (grown_le x y)
+grow_rows x y n i false e within = grow_const n (from_below_to x y)
 grow_rows x y n i true e within =
     let here : i < length x = within refl in
     subst₂ (λ a b. Grows (grown_from x y) (grown_to x y) a b) (product_single x i here) (product_single y i (omega arith)) (grow_marked (single i) x y e)
@@ -173,10 +134,10 @@ found_within q x y place i e h = let a = h.counted in let b = e.first in omega a
 
 grow_access : (q : Statement) (s : Statistics) (x y : List ℕ) (access : Access) → AreVectors q x y → IsValidAccess q s.indexed access
     → Grows (grown_from x y) (grown_to x y) (access_unit q s x access) (access_unit q s y access)
-grow_access q s x y (Seq t) e v = grow_same _ (grown_le x y)
-grow_access q s x y (Full t c) e v = grow_same _ (grown_le x y)
+grow_access q s x y (Seq t) e v = grow_const _ (from_below_to x y)
+grow_access q s x y (Full t c) e v = grow_const _ (from_below_to x y)
 grow_access q s x y (Range t c j) e v =
-    grow_sum (grow_same _ (grown_le x y))
+    grow_sum (grow_const _ (from_below_to x y))
     (grow_times s.weights.fetch (grow_rows x y (slice_index s.matching j) (selectivity_count (take j q.preds)) (option_map_or is_parameterised (slice_get q.preds j) false) e.one_length (λ h. found_within q x y t _ e (found_at q t c j v.2 h))))
 
 spread : (k m c f s : ℕ) → k * m * c + f * k * (m * s) ≡ k * m * (c + f * s)

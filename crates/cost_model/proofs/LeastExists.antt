@@ -9,8 +9,8 @@ use Rattle.row_values.specs.declared.statement.Edge.{Edge}
 use Rattle.row_values.specs.declared.statement.Place.{Place}
 use Rattle.row_values.specs.declared.statement.Pred.{Pred}
 use Rattle.plan_trees.specs.Indexes.{has_index}
-use Rattle.plan_trees.specs.PlaceSets.{has, all_below, are_disjoint}
-use Rattle.plan_trees.specs.PlanSpace.{IsValidAccess, IsValidStep, IsValidHashJoin, IsValidPlan, IsValidTop, SuitsStatement, column_in, column_of, has_all_keys, is_grouped, is_sorted_plan, joins_sets, joins_to, wanted_order, wants_order}
+use Rattle.plan_trees.specs.PlaceSets.{has, all_below, are_apart}
+use Rattle.plan_trees.specs.PlanSpace.{IsValidAccess, IsValidStep, IsValidHashJoin, IsValidPlan, IsValidTop, SuitsStatement, column_in, column_of, has_all_keys, is_grouped, is_sorted_plan, connects, joins_to, wanted_order, wants_order}
 use Rattle.plan_trees.specs.Spelling.{nesting}
 use Rattle.plan_trees.specs.Statistics.{Statistics}
 use Rattle.plan_trees.specs.Trees.{Tree, Base, Join, HashJoin, Sort, TopTree, Rows, SortedGroups, HashGroups, place_of, places_of, plan_below}
@@ -59,7 +59,7 @@ decided_step q indexed set (Probe t edge) =
 
 decided_hash_join : (q : Statement) (left right edge : ℕ) → Decided (IsValidHashJoin q left right edge)
 decided_hash_join q left right edge =
-    decided_both (decided_bool (are_disjoint left right) true) (decided_some_and _ (slice_get q.edges edge) (λ e. decided_bool (joins_sets left right e) true))
+    decided_both (decided_bool (are_apart left right) true) (decided_some_and _ (slice_get q.edges edge) (λ e. decided_bool (connects left right e) true))
 
 decided_plan : (q : Statement) (indexed : List ℕ) (plan : Tree) → Decided (IsValidPlan q indexed plan)
 decided_plan q indexed (Base access) = decided_access q indexed access

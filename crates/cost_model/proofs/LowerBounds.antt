@@ -1,14 +1,17 @@
 -- A feasible table is below every valid plan, and a tight table is feasible.
-use Rattle.std.proofs.Common.{ℕ, ◌≡◌, ◌≤◌, ◌+◌, ◌*◌, Bool, true, false, IsTrue, List, Option, Some, None, ap, sym, refl, subst, subst₂, arith, true≢false, le_trans}
+use Rattle.std.proofs.Common.{ℕ, ◌≡◌, ◌≤◌, ◌<◌, ◌+◌, ◌*◌, Bool, true, false, IsTrue, List, Option, Some, None, ap, sym, ◌∙◌, refl, subst, subst₂, arith, true≢false, le_trans}
 use Rattle.row_values.specs.Statements.{Statement}
+use Rattle.plan_trees.specs.declared.plans.Access.{Access}
 use Rattle.plan_trees.specs.declared.plans.StepKind.{StepKind}
 use Rattle.plan_trees.specs.PlaceSets.{one}
-use Rattle.plan_trees.specs.PlanSpace.{IsValidStep, IsValidHashJoin, IsValidPlan, IsValidTop, IsSortedPlan, has_all_keys, is_sorted_plan, wanted_order, wants_order}
+use Rattle.plan_trees.specs.PlanSpace.{IsValidAccess, IsValidStep, IsValidHashJoin, IsValidPlan, IsValidTop, IsSortedPlan, has_all_keys, is_sorted_access, is_sorted_plan, wanted_order, wants_order}
 use Rattle.plan_trees.specs.Statistics.{Statistics}
 use Rattle.plan_trees.specs.Trees.{Tree, Base, Join, HashJoin, Sort, TopTree, Rows, SortedGroups, HashGroups, place_of, place_entering, places_of, plan_below}
 use Rattle.cost_model.specs.Cardinalities.{card_of}
-use Rattle.cost_model.specs.Costs.{step_cost, join_cost, sort_cost, plan_cost, top_cost}
+use Rattle.cost_model.specs.Costs.{access_unit, step_cost, join_cost, sort_cost, plan_cost, top_cost}
 use Rattle.cost_model.specs.LeastCost.{Table, AtMost, IsPlaceSet, IsPlanOf, IsTightCell, IsTight, IsFeasible, FitsTable, whole_set}
+use Rattle.plan_trees.specs.declared.scale.TheConstants.{COST_SCALE}
+use Rattle.plan_trees.proofs.SoundParts.{access_in_range, step_in_range}
 use Rattle.cost_model.proofs.Sets.{set_of_access, set_after, set_of_both, set_of_plan}
 
 -- infinity or a number stays at most a larger number
@@ -21,14 +24,32 @@ not_sorted h = absurd (true≢false (sym h))
 
 -- Feasible tables are below.
 
+pub access_bounds : {q : Statement} {s : Statistics} {vector : List ℕ} {table : Table} → IsFeasible q s vector table → (sorted : Bool) (access : Access) → IsValidAccess q s.indexed access
+    → (IsTrue sorted → IsTrue (is_sorted_access q access)) → AtMost (table sorted (one (place_of access))) (COST_SCALE * access_unit q s vector access)
+access_bounds {q} {s} f sorted access valid ordered =
+    let here = f (one (place_of access)) (set_of_access q s.indexed access valid) in
+    (here.places (place_of access) (access_in_range q s.indexed access valid)).access sorted access valid refl refl ordered
+
+pub step_bounds : {q : Statement} {s : Statistics} {vector : List ℕ} {table : Table} → IsFeasible q s vector table → (sorted : Bool) (set cost : ℕ) (step : StepKind) → IsPlaceSet q set → IsValidStep q s.indexed set step
+    → AtMost (table sorted set) cost → AtMost (table sorted (set + one (place_entering step))) (cost + step_cost q s vector set step)
+step_bounds {q} {s} f sorted set cost step p valid below =
+    let here = f (set + one (place_entering step)) (set_after q s.indexed set step p valid) in
+    (here.places (place_entering step) (step_in_range q s.indexed set step valid)).step sorted set cost step p.some refl valid refl below
+
+join_bounds : {q : Statement} {s : Statistics} {vector : List ℕ} {table : Table} → IsFeasible q s vector table → (sorted : Bool) (left right edge outer inner : ℕ) → IsPlaceSet q left → IsPlaceSet q right
+    → IsValidHashJoin q left right edge → AtMost (table sorted left) outer → AtMost (table false right) inner → AtMost (table sorted (left + right)) (outer + inner + join_cost q s vector left right)
+join_bounds {q} f sorted left right edge outer inner p r valid below inside =
+    let some = p.some in
+    (f (left + right) (set_of_both q left right edge p r valid)).splits right r.some (omega arith) sorted left edge outer inner refl valid below inside
+
 -- no valid plan undercuts its cell of a feasible table
 pub below_plan : {q : Statement} {s : Statistics} {vector : List ℕ} {table : Table} (sorted : Bool) (plan : Tree) → IsFeasible q s vector table → IsValidPlan q s.indexed plan
     → (IsTrue sorted → IsSortedPlan q plan) → AtMost (table sorted (places_of plan)) (plan_cost q s vector plan)
-below_plan sorted (Base access) f v e = f.access sorted access v e
-below_plan {q} {s} sorted (Join outer step) f v e = f.step sorted (places_of outer) _ step (set_of_plan q s.indexed outer v.0) v.1 (below_plan sorted outer f v.0 e)
+below_plan sorted (Base access) f v e = access_bounds f sorted access v e
+below_plan {q} {s} sorted (Join outer step) f v e = step_bounds f sorted (places_of outer) _ step (set_of_plan q s.indexed outer v.0) v.1 (below_plan sorted outer f v.0 e)
 below_plan {q} {s} sorted (HashJoin outer inner edge) f v e =
-    f.hash_join sorted (places_of outer) (places_of inner) edge _ _ (set_of_plan q s.indexed outer v.0) (set_of_plan q s.indexed inner v.1) v.2 (below_plan sorted outer f v.0 e) (below_plan false inner f v.1 not_sorted)
-below_plan {q} {s} true (Sort outer) f v e = f.sort (places_of outer) _ (set_of_plan q s.indexed outer v.0) v.1 v.2 (below_plan false outer f v.0 not_sorted)
+    join_bounds f sorted (places_of outer) (places_of inner) edge _ _ (set_of_plan q s.indexed outer v.0) (set_of_plan q s.indexed inner v.1) v.2 (below_plan sorted outer f v.0 e) (below_plan false inner f v.1 not_sorted)
+below_plan {q} {s} true (Sort outer) f v e = (f (places_of outer) (set_of_plan q s.indexed outer v.0)).sort _ v.1 v.2 (below_plan false outer f v.0 not_sorted)
 below_plan {table = table} false (Sort outer) f v e = at_most_more (table false (places_of outer)) _ _ (below_plan false outer f v.0 not_sorted) (omega arith)
 
 below_top : {q : Statement} {s : Statistics} {vector : List ℕ} {table : Table} {least : ℕ} (top : TopTree) → IsFeasible q s vector table → FitsTable q s vector table least
@@ -47,12 +68,12 @@ below_every_top q s vector table least top feasible fits valid = below_top top f
 -- Tight tables are feasible.
 
 -- a plan that costs no more than this
-record IsWithin (q : Statement) (s : Statistics) (vector : List ℕ) (sorted : Bool) (set cost : ℕ) : Type 0 where
+record IsPlanWithin (q : Statement) (s : Statistics) (vector : List ℕ) (sorted : Bool) (set cost : ℕ) : Type 0 where
   plan : Tree
   fits : IsPlanOf q s sorted set plan
   within : plan_cost q s vector plan ≤ cost
 
-reached : (q : Statement) (s : Statistics) (vector : List ℕ) (sorted : Bool) (set cost : ℕ) (cell : Option ℕ) → IsTightCell q s vector sorted set cell → AtMost cell cost → IsWithin q s vector sorted set cost
+reached : (q : Statement) (s : Statistics) (vector : List ℕ) (sorted : Bool) (set cost : ℕ) (cell : Option ℕ) → IsTightCell q s vector sorted set cell → AtMost cell cost → IsPlanWithin q s vector sorted set cost
 reached q s vector sorted set cost None t h = absurd h
 reached q s vector sorted set cost (Some n) t h = record { plan = t.plan; fits = t.fits; within = let e = t.costs in omega arith }
 
@@ -121,12 +142,25 @@ tight_sort q s vector table least t set cost p wants keys h =
     let from = reached q s vector false set cost (table false set) (t.cells false set p) h in
     sorted_by q s vector set cost (table true set) from.plan (is_sorted_plan q from.plan) (t.cells true set p) from.fits from.within wants keys refl
 
+-- a part of a set of places is one
+part_set : (q : Statement) (part other set : ℕ) → 0 < part → part + other ≡ set → IsPlaceSet q set → IsPlaceSet q part
+part_set q part other set some sum p = record { some = some; there = let k = p.there in omega arith }
+
 tight_feasible : (q : Statement) (s : Statistics) (vector : List ℕ) (table : Table) (least : ℕ) → IsTight q s vector table least → IsFeasible q s vector table
-tight_feasible q s vector table least t = record {
-  access = λ sorted access v e. not_above q s vector sorted (one (place_of access)) (table sorted (one (place_of access))) (Base access) (t.cells sorted _ (set_of_access q s.indexed access v)) (record { valid = v; whole = refl; in_order = e });
-  step = λ sorted set cost step p v h. tight_step q s vector table least t sorted set cost step p v h;
-  hash_join = λ sorted left right edge outer_cost inner_cost p r v h k. tight_join q s vector table least t sorted left right edge outer_cost inner_cost p r v h k;
-  sort = λ set cost p wants keys h. tight_sort q s vector table least t set cost p wants keys h;
+tight_feasible q s vector table least t = λ set p. record {
+  places = λ place there. record {
+    access = λ sorted access v at alone e.
+        let whole : one (place_of access) ≡ set = ap one at ∙ alone in
+        not_above q s vector sorted set (table sorted set) (Base access) (t.cells sorted set p) (record { valid = v; whole = whole; in_order = e });
+    step = λ sorted from cost step some sum v enters h.
+        let whole : from + one (place_entering step) ≡ set = ap (λ n. from + one n) enters ∙ sum in
+        subst (λ n. AtMost (table sorted n) (cost + step_cost q s vector from step)) whole
+        (tight_step q s vector table least t sorted from cost step (part_set q from (one place) set some sum p) v h);
+  };
+  splits = λ right some less sorted left edge outer inner sum v h k.
+      subst (λ n. AtMost (table sorted n) (outer + inner + join_cost q s vector left right)) sum
+      (tight_join q s vector table least t sorted left right edge outer inner (part_set q left right set (omega arith) sum p) (part_set q right left set some (omega arith) p) v h k);
+  sort = λ cost wants keys h. tight_sort q s vector table least t set cost p wants keys h;
 }
 
 -- the whole set is one, since there is a valid top
@@ -135,7 +169,7 @@ whole_is_set q s vector table least t =
     let top = t.least_cost.reached.top in
     subst (λ n. IsPlaceSet q n) t.least_cost.reached.valid.whole (set_of_plan q s.indexed (plan_below top) t.least_cost.reached.valid.plan)
 
-whole_plan : (q : Statement) (s : Statistics) (vector : List ℕ) (table : Table) (least : ℕ) → IsTight q s vector table least → (sorted : Bool) (cost : ℕ) → AtMost (table sorted (whole_set q)) cost → IsWithin q s vector sorted (whole_set q) cost
+whole_plan : (q : Statement) (s : Statistics) (vector : List ℕ) (table : Table) (least : ℕ) → IsTight q s vector table least → (sorted : Bool) (cost : ℕ) → AtMost (table sorted (whole_set q)) cost → IsPlanWithin q s vector sorted (whole_set q) cost
 whole_plan q s vector table least t sorted cost h = reached q s vector sorted (whole_set q) cost (table sorted (whole_set q)) (t.cells sorted _ (whole_is_set q s vector table least t)) h
 
 finished : (q : Statement) (s : Statistics) (vector : List ℕ) (places set least below cost weight : ℕ) → places ≡ set → below ≤ cost → least ≤ below + weight * card_of q s vector places → least ≤ cost + weight * card_of q s vector set

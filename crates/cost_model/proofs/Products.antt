@@ -181,7 +181,7 @@ one_of_all [] k h = omega arith
 one_of_all (x ∷ xs) zero h = let k : x * 1 ≤ x * product_all xs = mul-le-mul_left x (ones_product xs h.1) in omega arith
 one_of_all (x ∷ xs) (suc k) h = let m : 1 * product_all xs ≤ x * product_all xs = mul-le-mul_right (product_all xs) h.0 in let n = one_of_all xs k h.1 in omega arith
 
-one_pick : (b : Bool) (x : ℕ) → 1 ≤ x → 1 ≤ (if b then x else 1)
+pub one_pick : (b : Bool) (x : ℕ) → 1 ≤ x → 1 ≤ (if b then x else 1)
 one_pick true x h = h
 one_pick false x h = omega arith
 

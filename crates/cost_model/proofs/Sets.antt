@@ -1,33 +1,20 @@
 -- The places of a valid plan are places of the statement.
-use Rattle.std.proofs.Common.{ℕ, ◌≡◌, ◌<◌, ◌+◌, ◌*◌, ◌/◌, ◌%◌, ◌^◌, ◌==◌, false, List, length, ap, ◌∙◌, subst, arith, pow_pos, bit_and}
+use Rattle.std.proofs.Common.{ℕ, ◌≡◌, ◌<◌, ◌+◌, ◌^◌, false, List, length, arith, pow_pos}
 use Rattle.std.proofs.Math.Pow.{pow-lt}
-use Rattle.std.proofs.lemmas.Bool.Decides.{nat_tests}
-use Rattle.std.proofs.lemmas.Nat.{or_lt, or_disjoint}
-use Rattle.std.proofs.lemmas.Nat.Bits.{and_pow}
 use Rattle.row_values.specs.Statements.{Statement}
 use Rattle.plan_trees.specs.declared.plans.Access.{Access}
 use Rattle.plan_trees.specs.declared.plans.StepKind.{StepKind}
-use Rattle.plan_trees.specs.declared.plans.StepKind.TheVariants.{Loop, Probe}
 use Rattle.plan_trees.specs.PlaceSets.{has, one}
 use Rattle.plan_trees.specs.PlanSpace.{IsValidAccess, IsValidStep, IsValidHashJoin, IsValidPlan}
 use Rattle.plan_trees.specs.Trees.{Tree, Base, Join, HashJoin, Sort, place_of, place_entering, places_of}
-use Rattle.plan_trees.proofs.Bits.{both_below}
+use Rattle.plan_trees.proofs.Bits.{apart_from_one, both_below}
 use Rattle.plan_trees.proofs.SoundParts.{access_in_range, step_in_range}
+use Rattle.plan_trees.proofs.ValidPlans.{entering_new}
 use Rattle.cost_model.specs.LeastCost.{IsPlaceSet}
-
-even_of : (n : ℕ) → (n % 2 == 1) ≡ false → n % 2 ≡ 0
-even_of n h = grind (arith, nat_tests)
 
 -- a set that gains a place stays below the number of sets
 pub stays_below : (set place count : ℕ) → has set place ≡ false → set < 2 ^ count → place < count → set + one place < 2 ^ count
-stays_below set place count h k l =
-    let even : set / 2 ^ place % 2 ≡ 0 = even_of _ h in
-    let e : bit_and set (2 ^ place) ≡ 0 = and_pow set place ∙ ap (λ m. m * 2 ^ place) even ∙ omega arith in
-    subst (λ m. m < 2 ^ count) (or_disjoint set (2 ^ place) e) (or_lt count set (2 ^ place) k (pow-lt l))
-
-pub entering_new : (q : Statement) (indexed : List ℕ) (set : ℕ) (step : StepKind) → IsValidStep q indexed set step → has set (place_entering step) ≡ false
-entering_new q indexed set (Loop access) valid = valid.1
-entering_new q indexed set (Probe place edge) valid = valid.1
+stays_below set place count h k l = both_below set (one place) count (apart_from_one set place h) k (pow-lt l)
 
 pub set_of_access : (q : Statement) (indexed : List ℕ) (access : Access) → IsValidAccess q indexed access → IsPlaceSet q (one (place_of access))
 set_of_access q indexed access valid = record { some = pow_pos (place_of access); there = pow-lt (access_in_range q indexed access valid) }

@@ -5,7 +5,7 @@ use Rattle.row_values.specs.Statements.{Statement}
 use Rattle.row_values.specs.declared.statement.Edge.{Edge}
 use Rattle.plan_trees.specs.PlaceSets.{has}
 use Rattle.plan_trees.specs.Statistics.{Statistics, selectivity_places}
-use Rattle.cost_model.specs.declared.scale.TheConstants.{COST_SCALE}
+use Rattle.plan_trees.specs.declared.scale.TheConstants.{COST_SCALE}
 
 -- the product of the numbers that are marked
 abbrev pub marked_product : List Bool → List ℕ → ℕ

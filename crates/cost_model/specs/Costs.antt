@@ -11,7 +11,7 @@ use Rattle.plan_trees.specs.PlanSpace.{column_in}
 use Rattle.plan_trees.specs.Statistics.{Statistics, fan_at}
 use Rattle.plan_trees.specs.Trees.{Tree, Base, Join, HashJoin, Sort, TopTree, Rows, SortedGroups, HashGroups, place_of, places_of}
 use Rattle.cost_model.specs.Cardinalities.{card_of, product_over}
-use Rattle.cost_model.specs.declared.scale.TheConstants.{COST_SCALE}
+use Rattle.plan_trees.specs.declared.scale.TheConstants.{COST_SCALE}
 
 -- how many binary digits a number has, up to a most
 unfoldable pub digits_within : ℕ → ℕ → ℕ

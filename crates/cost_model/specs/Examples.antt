@@ -16,22 +16,22 @@ use Rattle.plan_trees.specs.declared.plans.Access.TheVariants.{Seq, Full}
 use Rattle.plan_trees.specs.declared.plans.StepKind.{StepKind}
 use Rattle.plan_trees.specs.declared.plans.StepKind.TheVariants.{Loop, Probe}
 use Rattle.plan_trees.specs.declared.statistics.Weights.{Weights}
-use Rattle.plan_trees.specs.PlaceSets.{has, one, are_disjoint}
-use Rattle.plan_trees.specs.PlanSpace.{IsValidTop, column_of, ascending, joins_to, joins_sets}
+use Rattle.plan_trees.specs.PlaceSets.{has, one, are_apart}
+use Rattle.plan_trees.specs.PlanSpace.{IsValidTop, column_of, ascending, joins_to, connects}
 use Rattle.plan_trees.specs.Spelling.{top_text}
 use Rattle.plan_trees.specs.Statistics.{Statistics}
 use Rattle.plan_trees.specs.Trees.{Tree, Base, Join, HashJoin, Sort, Rows, place_of, place_entering}
 use Rattle.cost_model.specs.Cardinalities.{card_of, kappa}
 use Rattle.cost_model.specs.Costs.{access_unit, step_cost, join_cost, plan_cost, top_cost, digits, digits_within}
-use Rattle.cost_model.specs.declared.scale.TheConstants.{COST_SCALE}
+use Rattle.plan_trees.specs.declared.scale.TheConstants.{COST_SCALE}
 
 usual_weights : Weights
 usual_weights = record { row = 1; fetch = 2; probe = 1; hash = 2; sort = 1; out = 1 }
 
-table_of : List ℕ → List (List ℕ) → Place
+unfoldable pub table_of : List ℕ → List (List ℕ) → Place
 table_of name columns = record { table = name; alias = name; schema = map (λ column. record { name = column; kind = kind.Int }) columns }
 
-edge_of : ℕ → ℕ → ℕ → ℕ → Edge
+unfoldable pub edge_of : ℕ → ℕ → ℕ → ℕ → Edge
 edge_of left left_column right right_column = record { left = column_of left left_column; right = column_of right right_column }
 
 -- Smallest pair first is not least: SELECT a.x FROM a, b, c WHERE a.x = b.x AND a.y = c.y AND b.z = c.z over
@@ -83,10 +83,10 @@ joins_from space set (Probe place edge) = option_map_or (joins_to set place) (sl
 
 some_edge : ℕ → ℕ → List Edge → Bool
 some_edge left right [] = false
-some_edge left right (edge ∷ edges) = joins_sets left right edge || some_edge left right edges
+some_edge left right (edge ∷ edges) = connects left right edge || some_edge left right edges
 
 joins_with : Space → ℕ → ℕ → Bool
-joins_with space left right = are_disjoint left right && space.is_inner right && some_edge left right space.statement.edges
+joins_with space left right = are_apart left right && space.is_inner right && some_edge left right space.statement.edges
 
 lesser : Option ℕ → Option ℕ → Option ℕ
 lesser None other = other

@@ -9,7 +9,7 @@ use Rattle.plan_trees.specs.Statistics.{Statistics}
 use Rattle.plan_trees.specs.Trees.{Tree, TopTree, place_of, place_entering, places_of}
 use Rattle.cost_model.specs.Cardinalities.{card_of}
 use Rattle.cost_model.specs.Costs.{access_unit, step_cost, join_cost, sort_cost, plan_cost, top_cost}
-use Rattle.cost_model.specs.declared.scale.TheConstants.{COST_SCALE}
+use Rattle.plan_trees.specs.declared.scale.TheConstants.{COST_SCALE}
 
 -- a valid top that costs this
 pub record IsReached (q : Statement) (s : Statistics) (vector : List ℕ) (cost : ℕ) : Type 0 where
@@ -63,17 +63,45 @@ pub record IsTight (q : Statement) (s : Statistics) (vector : List ℕ) (table :
 
 -- Feasible tables.
 
--- no cell is above what one more access, step, hash join or sort costs over the cells below it
-pub record IsFeasible (q : Statement) (s : Statistics) (vector : List ℕ) (table : Table) : Type 0 where
-  pub access : (sorted : Bool) (access : Access) → IsValidAccess q s.indexed access → (IsTrue sorted → IsTrue (is_sorted_access q access))
-      → AtMost (table sorted (one (place_of access))) (COST_SCALE * access_unit q s vector access)
-  pub step : (sorted : Bool) (set cost : ℕ) (step : StepKind) → IsPlaceSet q set → IsValidStep q s.indexed set step → AtMost (table sorted set) cost
-      → AtMost (table sorted (set + one (place_entering step))) (cost + step_cost q s vector set step)
-  pub hash_join : (sorted : Bool) (left right edge outer_cost inner_cost : ℕ) → IsPlaceSet q left → IsPlaceSet q right → IsValidHashJoin q left right edge
-      → AtMost (table sorted left) outer_cost → AtMost (table false right) inner_cost
-      → AtMost (table sorted (left + right)) (outer_cost + inner_cost + join_cost q s vector left right)
-  pub sort : (set cost : ℕ) → IsPlaceSet q set → IsTrue (wants_order q) → IsTrue (has_all_keys set (wanted_order q)) → AtMost (table false set) cost
-      → AtMost (table true set) (cost + sort_cost q s vector set)
+-- two numbers or infinities that may stand for a set: of all its plans at `false`, and at `true` of those in the
+-- wanted order
+abbrev pub Costs : Type 0
+Costs = Bool → Option ℕ
+
+-- no more than what an access of this place costs, if it is the whole set, and what a step that takes in this place
+-- costs over the table's plans of the others
+pub record TakesPlace (q : Statement) (s : Statistics) (vector : List ℕ) (table : Table) (set place : ℕ) (costs : Costs) : Type 0 where
+  pub access : (sorted : Bool) (access : Access) → IsValidAccess q s.indexed access → place_of access ≡ place → one place ≡ set
+      → (IsTrue sorted → IsTrue (is_sorted_access q access)) → AtMost (costs sorted) (COST_SCALE * access_unit q s vector access)
+  pub step : (sorted : Bool) (from cost : ℕ) (step : StepKind) → 0 < from → from + one place ≡ set → IsValidStep q s.indexed from step
+      → place_entering step ≡ place → AtMost (table sorted from) cost → AtMost (costs sorted) (cost + step_cost q s vector from step)
+
+-- no more than what a hash join with this inner side costs, over the table's plans of both sides
+abbrev pub TakesSplit : Statement → Statistics → List ℕ → Table → ℕ → ℕ → Costs → Type 0
+TakesSplit q s vector table set right costs =
+    (sorted : Bool) (left edge outer inner : ℕ) → left + right ≡ set → IsValidHashJoin q left right edge
+    → AtMost (table sorted left) outer → AtMost (table false right) inner
+    → AtMost (costs sorted) (outer + inner + join_cost q s vector left right)
+
+-- sorted, no more than what a sort costs over any plan of the set
+abbrev pub TakesSort : Statement → Statistics → List ℕ → ℕ → Costs → Type 0
+TakesSort q s vector set costs =
+    (cost : ℕ) → IsTrue (wants_order q) → IsTrue (has_all_keys set (wanted_order q)) → AtMost (costs false) cost
+    → AtMost (costs true) (cost + sort_cost q s vector set)
+
+-- the numbers may stand for the set: none is above what a last access, step, hash join or sort makes of the table's
+-- plans of fewer places
+pub record IsFeasiblePotential (q : Statement) (s : Statistics) (vector : List ℕ) (table : Table) (set : ℕ) (costs : Costs) : Type 0 where
+  pub places : (place : ℕ) → place < length q.places → TakesPlace q s vector table set place costs
+  pub splits : (right : ℕ) → 0 < right → right < set → TakesSplit q s vector table set right costs
+  pub sort : TakesSort q s vector set costs
+
+-- all inequalities of a set: those with its cells on the left
+abbrev pub IsFeasibleAt : Statement → Statistics → List ℕ → Table → ℕ → Type 0
+IsFeasibleAt q s vector table set = IsFeasiblePotential q s vector table set (λ sorted. table sorted set)
+
+abbrev pub IsFeasible : Statement → Statistics → List ℕ → Table → Type 0
+IsFeasible q s vector table = (set : ℕ) → IsPlaceSet q set → IsFeasibleAt q s vector table set
 
 abbrev pub whole_set : Statement → ℕ
 whole_set q = all_below (length q.places)

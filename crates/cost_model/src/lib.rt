@@ -5,6 +5,3 @@
 #![tactic(auto)]
 
 pub mod laws;
-mod scale;
-
-pub use scale::COST_SCALE;

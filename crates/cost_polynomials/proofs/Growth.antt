@@ -21,7 +21,7 @@ swapped : (a p b q : ℕ) → (a * p) * (b * q) ≡ (a * b) * (p * q)
 swapped a p b q = mul_assoc a p (b * q) ∙ ap (λ n. a * n) (mul_left_comm p b q) ∙ sym (mul_assoc a b (p * q))
 
 -- four factors, two by two
-cross : (a b c d p q r s : ℕ) → a * b ≤ c * d → p * q ≤ r * s → (a * p) * (b * q) ≤ (c * r) * (d * s)
+pub cross : (a b c d p q r s : ℕ) → a * b ≤ c * d → p * q ≤ r * s → (a * p) * (b * q) ≤ (c * r) * (d * s)
 cross a b c d p q r s h k =
     let e : (a * p) * (b * q) ≡ (a * b) * (p * q) = swapped a p b q in
     let f : (c * r) * (d * s) ≡ (c * d) * (r * s) = swapped c r d s in
@@ -39,7 +39,7 @@ factor_in : (x y : ℕ) → x * (if nat_lt y x then y else 1) ≤ y * (if nat_lt
 factor_in x y = grind (arith, nat_tests, mul_comm)
 
 -- one place, in the set or not
-factor : (m : Bool) (x y : ℕ) → (if m then x else 1) * (if nat_lt y x then y else 1) ≤ (if m then y else 1) * (if nat_lt y x then x else 1)
+pub factor : (m : Bool) (x y : ℕ) → (if m then x else 1) * (if nat_lt y x then y else 1) ≤ (if m then y else 1) * (if nat_lt y x then x else 1)
 factor true x y = factor_in x y
 factor false x y = omega (arith, lesser x y)
 

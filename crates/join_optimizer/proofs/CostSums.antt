@@ -7,7 +7,7 @@ use Rattle.plan_trees.specs.PlanSpace.{IsValidAccess, IsValidStep}
 use Rattle.plan_trees.specs.Statistics.{Statistics, IsSoundStats, IsSoundVector}
 use Rattle.plan_trees.specs.Trees.{Base}
 use Rattle.cost_model.specs.Costs.{access_unit, step_cost, join_cost, sort_cost}
-use Rattle.cost_model.specs.declared.scale.TheConstants.{COST_SCALE}
+use Rattle.plan_trees.specs.declared.scale.TheConstants.{COST_SCALE}
 use Rattle.cost_model.proofs.CostBounds.{costs_fit, join_below_limit, sort_below_limit, step_below_limit, weighed_below_limit}
 use Rattle.cost_model.specs.Cardinalities.{card_of}
 use Rattle.cost_model.proofs.SoundNumbers.{are_sized}

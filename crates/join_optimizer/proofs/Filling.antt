@@ -8,20 +8,20 @@ use Rattle.plan_trees.specs.Statistics.{Statistics}
 use Rattle.plan_trees.specs.Trees.{Tree, place_of, place_entering}
 use Rattle.plan_trees.proofs.SoundParts.{access_in_range, step_in_range}
 use Rattle.cost_model.specs.Costs.{access_unit, join_cost, plan_cost, sort_cost, step_cost}
-use Rattle.cost_model.specs.declared.scale.TheConstants.{COST_SCALE}
-use Rattle.cost_model.specs.LeastCost.{AtMost, Table, IsFeasible, IsPlanOf, IsTightCell}
+use Rattle.plan_trees.specs.declared.scale.TheConstants.{COST_SCALE}
+use Rattle.cost_model.specs.LeastCost.{AtMost, Costs, Table, IsFeasible, IsFeasiblePotential, IsPlanOf, IsTightCell, TakesPlace, TakesSort, TakesSplit}
 use Rattle.cost_model.proofs.LowerBounds.{below_plan}
 use Rattle.cost_model.proofs.Sets.{set_of_access, set_after, set_of_both}
 use Rattle.join_optimizer.specs.declared.found.Cheapest.{Cheapest}
 use Rattle.join_optimizer.specs.Found.{Priced, AreFound, IsFound, cost_in, cost_of, nothing, plan_in, table_of}
-use Rattle.join_optimizer.specs.Search.{AreCheapest, Costs, IsFeasibleAt, Offered, TakesBetween, TakesPlace, TakesSort, TakesSplit}
+use Rattle.join_optimizer.specs.Search.{AreCheapest, Offered, TakesBetween}
 use Rattle.join_optimizer.proofs.Offers.{below_next}
 use Rattle.join_optimizer.proofs.Parts.{place_stays, split_stays}
 
 -- One set.
 
 pub cell_feasible : (q : Statement) (s : Statistics) (vector : List ℕ) (table : Table) (set : ℕ) (first placed joined best : Cheapest) → Offered q s vector set (TakesBetween (TakesPlace q s vector table set) 0 (length q.places)) first placed
-    → Offered q s vector set (TakesBetween (TakesSplit q s vector table set) 1 set) placed joined → Offered q s vector set (TakesSort q s vector set) joined best → IsFeasibleAt q s vector table set (cost_in best)
+    → Offered q s vector set (TakesBetween (TakesSplit q s vector table set) 1 set) placed joined → Offered q s vector set (TakesSort q s vector set) joined best → IsFeasiblePotential q s vector table set (cost_in best)
 cell_feasible q s vector table set first placed joined best f g h = record {
   places = λ place less. place_stays q s vector table set place (cost_in joined) (cost_in best) h.keeps (place_stays q s vector table set place (cost_in placed) (cost_in joined) g.keeps (f.taken place (omega arith) less));
   splits = λ right some less. split_stays q s vector table set right (cost_in joined) (cost_in best) h.keeps (g.taken right (omega arith) less);
@@ -33,12 +33,12 @@ smaller from place set e = let p = pow_pos place in omega arith
 
 -- the inequalities of a set look at smaller sets alone
 feasible_same : (q : Statement) (s : Statistics) (vector : List ℕ) (old new : Table) (set : ℕ) (before after : Costs) → ((sorted : Bool) (j : ℕ) → j < set → new sorted j ≡ old sorted j) → ((sorted : Bool) → before sorted ≡ after sorted)
-    → IsFeasibleAt q s vector old set before → IsFeasibleAt q s vector new set after
+    → IsFeasiblePotential q s vector old set before → IsFeasiblePotential q s vector new set after
 feasible_same q s vector old new set before after e same f = record {
   places = λ place less. record {
     access = λ sorted access valid at alone ordered. subst (λ o. AtMost o (COST_SCALE * access_unit q s vector access)) (same sorted) ((f.places place less).access sorted access valid at alone ordered);
-    step = λ sorted from cost step sum valid enters h.
-        subst (λ o. AtMost o (cost + step_cost q s vector from step)) (same sorted) ((f.places place less).step sorted from cost step sum valid enters (subst (λ o. AtMost o cost) (e sorted from (smaller from place set sum)) h));
+    step = λ sorted from cost step some sum valid enters h.
+        subst (λ o. AtMost o (cost + step_cost q s vector from step)) (same sorted) ((f.places place less).step sorted from cost step some sum valid enters (subst (λ o. AtMost o cost) (e sorted from (smaller from place set sum)) h));
   };
   splits = λ right some less sorted left edge m n sum valid h k.
       subst (λ o. AtMost o (m + n + join_cost q s vector left right)) (same sorted) (f.splits right some less sorted left edge m n sum valid (subst (λ o. AtMost o m) (e sorted left (omega arith)) h) (subst (λ o. AtMost o n) (e false right less) k));
@@ -59,22 +59,22 @@ kept cells best sorted set less = ap (λ (x : Cheapest). cost_in x sorted) (get_
 added : (cells : List Cheapest) (best : Cheapest) (count : ℕ) (sorted : Bool) → length cells ≡ count → cost_in best sorted ≡ table_of (cells ++ best ∷ []) sorted count
 added cells best count sorted e = ap (λ (x : Cheapest). cost_in x sorted) (sym (get_or_push cells best nothing count e))
 
-feasible_by : (q : Statement) (s : Statistics) (vector : List ℕ) (cells : List Cheapest) (count : ℕ) (best : Cheapest) → AreCheapest q s vector cells count → IsFeasibleAt q s vector (table_of cells) count (cost_in best)
-    → (set : ℕ) → 0 < set → (set < count) ⊎ (set ≡ count) → IsFeasibleAt q s vector (table_of (cells ++ best ∷ [])) set (λ sorted. table_of (cells ++ best ∷ []) sorted set)
+feasible_by : (q : Statement) (s : Statistics) (vector : List ℕ) (cells : List Cheapest) (count : ℕ) (best : Cheapest) → AreCheapest q s vector cells count → IsFeasiblePotential q s vector (table_of cells) count (cost_in best)
+    → (set : ℕ) → 0 < set → (set < count) ⊎ (set ≡ count) → IsFeasiblePotential q s vector (table_of (cells ++ best ∷ [])) set (λ sorted. table_of (cells ++ best ∷ []) sorted set)
 feasible_by q s vector cells count best h f set some (inl less) =
     let e = h.counted in
     feasible_same q s vector (table_of cells) (table_of (cells ++ best ∷ [])) set (λ sorted. table_of cells sorted set) (λ sorted. table_of (cells ++ best ∷ []) sorted set)
     (λ sorted j lower. kept cells best sorted j (omega arith)) (λ sorted. sym (kept cells best sorted set (omega arith))) (h.feasible set some less)
 feasible_by q s vector cells count best h f set some (inr same) =
     let e = h.counted in
-    subst (λ n. IsFeasibleAt q s vector (table_of (cells ++ best ∷ [])) n (λ sorted. table_of (cells ++ best ∷ []) sorted n)) (sym same)
+    subst (λ n. IsFeasiblePotential q s vector (table_of (cells ++ best ∷ [])) n (λ sorted. table_of (cells ++ best ∷ []) sorted n)) (sym same)
     (feasible_same q s vector (table_of cells) (table_of (cells ++ best ∷ [])) count (cost_in best) (λ sorted. table_of (cells ++ best ∷ []) sorted count)
     (λ sorted j lower. kept cells best sorted j (omega arith)) (λ sorted. added cells best count sorted e) f)
 
 pub cheapest_more : (q : Statement) (s : Statistics) (vector : List ℕ) (cells read after : List Cheapest) (count : ℕ) (best : Cheapest) → AreCheapest q s vector cells count → 0 < count → AreFound q s vector count (plan_in best) → read ≡ cells
-    → IsFeasibleAt q s vector (table_of read) count (cost_in best) → after ≡ cells ++ best ∷ [] → AreCheapest q s vector after (count + 1)
+    → IsFeasiblePotential q s vector (table_of read) count (cost_in best) → after ≡ cells ++ best ∷ [] → AreCheapest q s vector after (count + 1)
 cheapest_more q s vector cells read after count best h some found r f e =
-    let here : IsFeasibleAt q s vector (table_of cells) count (cost_in best) = subst (λ xs. IsFeasibleAt q s vector (table_of xs) count (cost_in best)) r f in
+    let here : IsFeasiblePotential q s vector (table_of cells) count (cost_in best) = subst (λ xs. IsFeasiblePotential q s vector (table_of xs) count (cost_in best)) r f in
     let few = h.counted in
     subst (λ xs. AreCheapest q s vector xs (count + 1)) (sym e) (record {
       counted = length_push cells best ∙ ap (λ n. n + 1) h.counted;
@@ -86,21 +86,7 @@ cheapest_more q s vector cells read after count best h some found r f e =
 -- All sets.
 
 pub feasible_all : (q : Statement) (s : Statistics) (vector : List ℕ) (cells : List Cheapest) → AreCheapest q s vector cells (2 ^ length q.places) → IsFeasible q s vector (table_of cells)
-feasible_all q s vector cells h = record {
-  access = λ sorted access valid ordered.
-      let place = place_of access in
-      let p = set_of_access q s.indexed access valid in
-      ((h.feasible (one place) p.some p.there).places place (access_in_range q s.indexed access valid)).access sorted access valid refl refl ordered;
-  step = λ sorted set cost step p valid below.
-      let place = place_entering step in
-      let after = set_after q s.indexed set step p valid in
-      ((h.feasible (set + one place) after.some after.there).places place (step_in_range q s.indexed set step valid)).step sorted set cost step refl valid refl below;
-  hash_join = λ sorted left right edge m n p r valid below inside.
-      let both = set_of_both q left right edge p r valid in
-      let some = p.some in
-      (h.feasible (left + right) both.some both.there).splits right r.some (omega arith) sorted left edge m n refl valid below inside;
-  sort = λ set cost p wants keys below. (h.feasible set p.some p.there).sort cost wants keys below;
-}
+feasible_all q s vector cells h = λ set p. h.feasible set p.some p.there
 
 -- no plan of a set undercuts its cell
 undercut_by_none : (q : Statement) (s : Statistics) (vector : List ℕ) (cells : List Cheapest) (sorted : Bool) (set : ℕ) (plan : Tree) → AreCheapest q s vector cells (2 ^ length q.places) → IsPlanOf q s sorted set plan → AtMost (table_of cells sorted set) (plan_cost q s vector plan)

@@ -6,10 +6,10 @@ use Rattle.std.proofs.lemmas.Option.{slice_get-get_or}
 use Rattle.row_values.specs.Statements.{Statement}
 use Rattle.plan_trees.specs.Lists.{IsListOf}
 use Rattle.plan_trees.specs.Statistics.{Statistics}
-use Rattle.cost_model.specs.LeastCost.{AtMost}
+use Rattle.cost_model.specs.LeastCost.{AtMost, Costs}
 use Rattle.join_optimizer.specs.declared.found.Cheapest.{Cheapest}
 use Rattle.join_optimizer.specs.Found.{Priced, AreFound, IsFound, cheaper, cost_in, cost_of, plan_in}
-use Rattle.join_optimizer.specs.Search.{Costs, Keeps, Offered, TakesAll, TakesBetween, TakesEach}
+use Rattle.join_optimizer.specs.Search.{Keeps, Offered, TakesAll, TakesBetween, TakesEach}
 use Rattle.join_optimizer.proofs.Cheaper.{at_most_first, at_most_second, one_of_both}
 
 -- what holds in both orders

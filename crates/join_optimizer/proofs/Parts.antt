@@ -9,13 +9,13 @@ use Rattle.plan_trees.specs.Statistics.{Statistics}
 use Rattle.plan_trees.specs.Trees.{Base, place_of, place_entering}
 use Rattle.plan_trees.specs.Lists.{IsAccessOf, IsStepInto}
 use Rattle.cost_model.specs.Costs.{access_unit, step_cost, join_cost}
-use Rattle.cost_model.specs.LeastCost.{AtMost, Table}
-use Rattle.cost_model.specs.declared.scale.TheConstants.{COST_SCALE}
+use Rattle.cost_model.specs.LeastCost.{AtMost, Costs, Table, TakesPlace, TakesSplit}
+use Rattle.plan_trees.specs.declared.scale.TheConstants.{COST_SCALE}
 use Rattle.cost_model.proofs.LowerBounds.{not_sorted}
-use Rattle.cost_model.proofs.Sets.{entering_new}
+use Rattle.plan_trees.proofs.ValidPlans.{entering_new}
 use Rattle.join_optimizer.specs.declared.found.Cheapest.{Cheapest}
 use Rattle.join_optimizer.specs.Found.{Priced, AreFound, IsFound, accessed, cheaper, cost_in, cost_of, joined, plan_in, priced, seen, stepped}
-use Rattle.join_optimizer.specs.Search.{Costs, Offered, TakesAccess, TakesAll, TakesPlace, TakesSplit, TakesStep}
+use Rattle.join_optimizer.specs.Search.{Offered, TakesAccess, TakesAll, TakesStep}
 use Rattle.join_optimizer.proofs.Offers.{StaysTaken, in_both, offered, unchanged}
 use Rattle.join_optimizer.proofs.Sets.{gained, none_in_empty}
 
@@ -138,20 +138,18 @@ place_alone_in place set e = subst (λ m. has m place ≡ true) (let zero_more :
 pub place_absent : (q : Statement) (s : Statistics) (vector : List ℕ) (table : Table) (set place : ℕ) (cell : Cheapest) → has set place ≡ false → AreFound q s vector set (plan_in cell) → Offered q s vector set (TakesPlace q s vector table set place) cell cell
 place_absent q s vector table set place cell absent found = unchanged q s vector set (TakesPlace q s vector table set place) cell found (record {
   access = λ sorted access valid at alone e. absurd (true≢false (sym (place_alone_in place set alone) ∙ absent));
-  step = λ sorted from cost step sum valid enters h. absurd (true≢false (sym (place_gained q s from place set step sum valid enters) ∙ absent));
+  step = λ sorted from cost step some sum valid enters h. absurd (true≢false (sym (place_gained q s from place set step sum valid enters) ∙ absent));
 })
 
 -- a place that is the whole set
-pub place_alone : (q : Statement) (s : Statistics) (vector : List ℕ) (table : Table) (set place : ℕ) (before after : Cheapest) → one place ≡ set → ((sorted : Bool) → table sorted 0 ≡ None)
+pub place_alone : (q : Statement) (s : Statistics) (vector : List ℕ) (table : Table) (set place : ℕ) (before after : Cheapest) → one place ≡ set
     → Offered q s vector (one place) (TakesAll (IsAccessOf q s.indexed place) (TakesAccess q s vector)) before after → Offered q s vector set (TakesPlace q s vector table set place) before after
-place_alone q s vector table set place before after alone none f = record {
+place_alone q s vector table set place before after alone f = record {
   keeps = f.keeps;
   found = subst (λ m. AreFound q s vector m (plan_in after)) alone f.found;
   taken = record {
     access = λ sorted access valid at same e. f.taken access (valid, at) sorted e;
-    step = λ sorted from cost step sum valid enters h.
-        let empty : from ≡ 0 = omega arith in
-        absurd (subst (λ o. AtMost o cost) (ap (λ m. table sorted m) empty ∙ none sorted) h);
+    step = λ sorted from cost step some sum valid enters h. absurd (omega arith);
   };
 }
 
@@ -163,7 +161,7 @@ place_over q s vector table set place from outer before after sum some cell f = 
   found = subst (λ m. AreFound q s vector m (plan_in after)) sum f.found;
   taken = record {
     access = λ sorted access valid at alone e. absurd (omega arith);
-    step = λ sorted other cost step total valid enters h.
+    step = λ sorted other cost step there total valid enters h.
         let same : other ≡ from = omega arith in
         let here : IsStepInto q s.indexed from place step = (subst (λ m. IsValidStep q s.indexed m step) same valid, enters) in
         let below : AtMost (cost_in outer sorted) cost = subst (λ o. AtMost o cost) (ap (λ m. table sorted m) same ∙ cell sorted) h in
@@ -174,5 +172,5 @@ place_over q s vector table set place from outer before after sum some cell f = 
 pub place_stays : (q : Statement) (s : Statistics) (vector : List ℕ) (table : Table) (set : ℕ) → StaysTaken (TakesPlace q s vector table set)
 place_stays q s vector table set place before after keeps h = record {
   access = λ sorted access valid at alone e. keeps sorted _ (h.access sorted access valid at alone e);
-  step = λ sorted from cost step sum valid enters k. keeps sorted _ (h.step sorted from cost step sum valid enters k);
+  step = λ sorted from cost step some sum valid enters k. keeps sorted _ (h.step sorted from cost step some sum valid enters k);
 }

@@ -5,10 +5,10 @@ use Rattle.plan_trees.specs.PlanSpace.{has_all_keys, is_sorted_plan, wanted_orde
 use Rattle.plan_trees.specs.Statistics.{Statistics}
 use Rattle.plan_trees.specs.Trees.{Sort}
 use Rattle.cost_model.specs.Costs.{sort_cost}
-use Rattle.cost_model.specs.LeastCost.{AtMost}
+use Rattle.cost_model.specs.LeastCost.{AtMost, TakesSort}
 use Rattle.join_optimizer.specs.declared.found.Cheapest.{Cheapest}
 use Rattle.join_optimizer.specs.Found.{Priced, AreFound, IsFound, cheaper, cost_in, cost_of, ordered, plan_in, priced, seen}
-use Rattle.join_optimizer.specs.Search.{Offered, TakesSort}
+use Rattle.join_optimizer.specs.Search.{Offered}
 use Rattle.join_optimizer.proofs.Offers.{in_both, offered, unchanged}
 
 ordered_only : Statement → ℕ → Option Priced → Bool → Option Priced

@@ -14,8 +14,8 @@ use Rattle.plan_trees.specs.Statistics.{Statistics}
 use Rattle.plan_trees.specs.Trees.{TopTree, Rows, SortedGroups, HashGroups, plan_below, top_tree}
 use Rattle.cost_model.specs.Costs.{access_unit, plan_cost, step_cost, top_cost}
 use Rattle.cost_model.specs.LeastCost.{AtMost, FitsTable, IsFeasible, IsLeastCost, IsPlaceSet, IsTight, IsTightCell, Table, whole_set}
-use Rattle.cost_model.specs.declared.scale.TheConstants.{COST_SCALE}
-use Rattle.cost_model.proofs.LowerBounds.{below_every_top, below_plan, not_sorted}
+use Rattle.plan_trees.specs.declared.scale.TheConstants.{COST_SCALE}
+use Rattle.cost_model.proofs.LowerBounds.{access_bounds, below_every_top, below_plan, not_sorted, step_bounds}
 use Rattle.cost_model.proofs.Sets.{set_of_plan}
 use Rattle.cost_model.proofs.SomeTop.{some_top}
 use Rattle.plan_costs.specs.declared.planner.Best.{Best}
@@ -41,12 +41,12 @@ set_below q n from few some less = record { some = some; there = lt_of_lt_of_le 
 has_number_from : (q : Statement) (s : Statistics) (vector : List ℕ) (table : Table) (n from set : ℕ) → IsFeasible q s vector table → suc n ≤ length q.places → from < 2 ^ n → from + one n ≡ set
     → ((from : ℕ) → 0 < from → from < 2 ^ n → (m : ℕ) × AtMost (table false from) m) → (m : ℕ) × AtMost (table false set) m
 has_number_from q s vector table n zero set f few less e below =
-    (COST_SCALE * access_unit q s vector (Seq n), subst (λ k. AtMost (table false k) (COST_SCALE * access_unit q s vector (Seq n))) (let alone : one n ≡ set = omega arith in alone) (f.access false (Seq n) few not_sorted))
+    (COST_SCALE * access_unit q s vector (Seq n), subst (λ k. AtMost (table false k) (COST_SCALE * access_unit q s vector (Seq n))) (let alone : one n ≡ set = omega arith in alone) (access_bounds f false (Seq n) few not_sorted))
 has_number_from q s vector table n (suc from) set f few less e below =
     let before = below (suc from) (omega arith) less in (
       before.0 + step_cost q s vector (suc from) (Loop (Seq n)),
       subst (λ k. AtMost (table false k) (before.0 + step_cost q s vector (suc from) (Loop (Seq n)))) e
-          (f.step false (suc from) before.0 (Loop (Seq n)) (set_below q n (suc from) (omega arith) (omega arith) less) (few, outside n (suc from) less) before.1),
+          (step_bounds f false (suc from) before.0 (Loop (Seq n)) (set_below q n (suc from) (omega arith) (omega arith) less) (few, outside n (suc from) less) before.1),
     )
 
 has_number_by : (q : Statement) (s : Statistics) (vector : List ℕ) (table : Table) (n set : ℕ) → IsFeasible q s vector table → suc n ≤ length q.places → 0 < set → set < 2 ^ suc n → (set < 2 ^ n → (m : ℕ) × AtMost (table false set) m) → (set < 2 ^ n) ⊎ (2 ^ n ≤ set)

@@ -3,7 +3,8 @@ ghost use Rattle.std.specs.Prelude.{◌≡◌, ◌<◌, ◌≤◌, ◌+◌, ◌^
 ghost use Rattle.row_values.specs.Statements.{IsSoundQuery};
 ghost use Rattle.plan_trees.specs.Statistics.{IsSoundStats, IsSoundVector};
 ghost use Rattle.join_optimizer.specs.Found.{AreFound, plan_in, table_of};
-ghost use Rattle.join_optimizer.specs.Search.{AreCheapest, Offered, TakesBetween, TakesSplit};
+ghost use Rattle.cost_model.specs.LeastCost.{TakesSplit};
+ghost use Rattle.join_optimizer.specs.Search.{AreCheapest, Offered, TakesBetween};
 
 use crate::found::{Cheapest, take_hash_join};
 use crate::last_places::cell_at;

@@ -5,12 +5,12 @@ ghost use Rattle.plan_trees.specs.Lists.{IsAccessOf, IsStepInto};
 ghost use Rattle.plan_trees.specs.PlaceSets.{one};
 ghost use Rattle.plan_trees.specs.Statistics.{IsSoundStats, IsSoundVector};
 ghost use Rattle.join_optimizer.specs.Found.{AreFound, cost_in, nothing, plan_in, table_of};
-ghost use Rattle.join_optimizer.specs.Search.{AreCheapest, Offered, TakesAccess, TakesAll, TakesBetween, TakesPlace, TakesStep};
+ghost use Rattle.cost_model.specs.LeastCost.{TakesPlace};
+ghost use Rattle.join_optimizer.specs.Search.{AreCheapest, Offered, TakesAccess, TakesAll, TakesBetween, TakesStep};
 
 use crate::found::{Cheapest, take_access, take_sorted_access, take_step};
-use cost_model::COST_SCALE;
 use plan_costs::{access_unit, step_cost};
-use plan_trees::{Access, Stats, StepKind, accesses, has_place, one_place, steps};
+use plan_trees::{Access, COST_SCALE, Stats, StepKind, accesses, has_place, one_place, steps};
 use row_values::{OutOfMemory, Query};
 use std::alloc::Global;
 

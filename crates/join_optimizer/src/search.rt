@@ -3,7 +3,8 @@ ghost use Rattle.std.specs.Prelude.{◌<◌, ◌^◌, IfOk, length};
 ghost use Rattle.row_values.specs.Statements.{IsSoundQuery};
 ghost use Rattle.plan_trees.specs.Statistics.{IsSoundStats, IsSoundVector};
 ghost use Rattle.join_optimizer.specs.Found.{AreFound, cost_in, plan_in, table_of};
-ghost use Rattle.join_optimizer.specs.Search.{AreCheapest, IsFeasibleAt};
+ghost use Rattle.cost_model.specs.LeastCost.{IsFeasiblePotential};
+ghost use Rattle.join_optimizer.specs.Search.{AreCheapest};
 
 use crate::found::Cheapest;
 use crate::hash_joins::by_splits;
@@ -29,7 +30,7 @@ fn cheapest_of(
     requires there { set < 2 ^ length q.now.places }
     requires cells { AreCheapest q.now stats.now s.now cells.now set }
     ensures found { IfOk result (λ best. AreFound q.now stats.now s.now set (plan_in best)) }
-    ensures feasible { IfOk result (λ best. IsFeasibleAt q.now stats.now s.now (table_of cells.now) set
+    ensures feasible { IfOk result (λ best. IsFeasiblePotential q.now stats.now s.now (table_of cells.now) set
         (cost_in best)) }
 {
     let placed = by_places(alloc, q, stats, s, cells, set)?;

@@ -3,7 +3,8 @@ ghost use Rattle.std.specs.Prelude.{◌<◌, ◌^◌, IfOk, length};
 ghost use Rattle.row_values.specs.Statements.{IsSoundQuery};
 ghost use Rattle.plan_trees.specs.Statistics.{IsSoundStats, IsSoundVector};
 ghost use Rattle.join_optimizer.specs.Found.{AreFound, plan_in};
-ghost use Rattle.join_optimizer.specs.Search.{Offered, TakesSort};
+ghost use Rattle.cost_model.specs.LeastCost.{TakesSort};
+ghost use Rattle.join_optimizer.specs.Search.{Offered};
 
 use crate::found::{Cheapest, take_ordered};
 use plan_costs::sort_cost;

@@ -9,9 +9,8 @@ ghost use Rattle.row_values.specs.Statements.{is_parameterised};
 ghost use Rattle.plan_trees.specs.Statistics.{IsSoundStats, IsSoundVector};
 
 use crate::Optimizer;
-use cost_model::COST_SCALE;
 use plan_costs::{Best, Planner};
-use plan_trees::{Indexed, Stats, Weights, print_plan};
+use plan_trees::{COST_SCALE, Indexed, Stats, Weights, print_plan};
 use row_values::{
     ColRef, Column, Edge, Item, Kind, Operand, OrderKey, OutOfMemory, Place, Pred, Query, Schema,
     Test, Words,

@@ -5,7 +5,7 @@ use Rattle.row_values.specs.Statements.{Statement, IsSoundQuery}
 use Rattle.plan_trees.specs.PlaceSets.{has}
 use Rattle.plan_trees.specs.Statistics.{Statistics, IsSoundStats, IsSoundVector, selectivity_places}
 use Rattle.cost_model.specs.Cardinalities.{card_of, kappa, is_inside, marked_product, product_over}
-use Rattle.cost_model.specs.declared.scale.TheConstants.{COST_SCALE}
+use Rattle.plan_trees.specs.declared.scale.TheConstants.{COST_SCALE}
 use Rattle.cost_model.proofs.CostBounds.{card_below_limit, fixed_few, selected_few}
 use Rattle.cost_model.proofs.SoundNumbers.{are_sized, preds_there, vector_some}
 use Rattle.plan_costs.proofs.Factors.{rows_divisor, divisor_some, marked_some}

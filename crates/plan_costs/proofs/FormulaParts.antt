@@ -7,7 +7,7 @@ use Rattle.row_values.specs.Statements.{Statement, IsSoundQuery}
 use Rattle.plan_trees.specs.Statistics.{Statistics, IsSoundStats}
 use Rattle.cost_model.specs.Cardinalities.{kappa, is_inside, product_over}
 use Rattle.cost_model.specs.Costs.{digits, digits_within, look_up_cost}
-use Rattle.cost_model.specs.declared.scale.TheConstants.{COST_SCALE}
+use Rattle.plan_trees.specs.declared.scale.TheConstants.{COST_SCALE}
 use Rattle.plan_costs.proofs.Cards.{are_parts}
 use Rattle.plan_costs.proofs.Factors.{divisor_some, marked_some, product_some}
 use Rattle.plan_costs.proofs.Ones.{ones, ones_sound}

@@ -18,7 +18,7 @@ use Rattle.growth_checker.specs.Expression.{Formula, Constant, Selectivity, Plus
 use Rattle.growth_checker.proofs.Expansion.{large_value_at}
 use Rattle.cost_model.specs.Cardinalities.{kappa}
 use Rattle.cost_model.specs.Costs.{look_up_cost, edge_fan, top_cost}
-use Rattle.cost_model.specs.declared.scale.TheConstants.{COST_SCALE}
+use Rattle.plan_trees.specs.declared.scale.TheConstants.{COST_SCALE}
 use Rattle.cost_model.proofs.CostBounds.{costs_fit}
 use Rattle.cost_model.proofs.Growth.{IsSelectivityOf, selectivity_of}
 use Rattle.cost_model.proofs.SoundNumbers.{places_counted}

@@ -14,7 +14,7 @@ use Rattle.growth_checker.specs.Expression.{Formula, Constant, Selectivity, Time
 use Rattle.cost_model.specs.Cardinalities.{card_of, kappa, marked_product, product_over}
 use Rattle.cost_model.specs.Costs.{digits, look_up_cost, access_unit, edge_fan, step_cost, join_cost, plan_cost, top_cost}
 use Rattle.cost_model.specs.Laws.{IsVectorOf}
-use Rattle.cost_model.specs.declared.scale.TheConstants.{COST_SCALE}
+use Rattle.plan_trees.specs.declared.scale.TheConstants.{COST_SCALE}
 use Rattle.cost_model.proofs.SoundNumbers.{places_counted}
 use Rattle.plan_costs.specs.Formulas.{selected, card_formula, found_formula, unit_formula, step_formula, join_formula, plan_formula, grouped_formula, top_formula}
 use Rattle.plan_costs.proofs.StepParts.{count_before}

@@ -14,7 +14,7 @@ use Rattle.plan_trees.specs.Trees.{Tree, Base, Join, HashJoin, Sort, TopTree, Ro
 use Rattle.growth_checker.specs.Expression.{Formula, Constant, Selectivity, Plus, Times, mentions, IsSound, IsUnshared}
 use Rattle.cost_model.specs.Cardinalities.{kappa, product_over}
 use Rattle.cost_model.specs.Costs.{digits, look_up_cost, edge_fan}
-use Rattle.cost_model.specs.declared.scale.TheConstants.{COST_SCALE}
+use Rattle.plan_trees.specs.declared.scale.TheConstants.{COST_SCALE}
 
 -- the formula times the selectivities of the set's places; the list has the place of each from this one on
 abbrev pub selected : ℕ → ℕ → Formula → List ℕ → Formula

@@ -9,8 +9,7 @@ ghost use Rattle.plan_trees.specs.PlaceSets.{has};
 ghost use Rattle.plan_trees.specs.Statistics.{IsSoundStats, IsSoundVector, selectivity_places};
 ghost use Rattle.cost_model.specs.Cardinalities.{card_of, is_inside, kappa, marked_product, product_over};
 
-use cost_model::COST_SCALE;
-use plan_trees::{Stats, has_place};
+use plan_trees::{COST_SCALE, Stats, has_place};
 use row_values::{Edge, Operand, Pred, Query, Test};
 
 /// Whether the operand is a parameter.

@@ -5,7 +5,7 @@
 ghost use Rattle.std.specs.Prelude.{◌≡◌, ◌<◌, ◌≤◌, ◌+◌, ◌*◌, ◌^◌, ℕ, List, IfOk, IsTrue, length, if◌then◌else◌};
 ghost use Rattle.row_values.specs.Statements.{IsSoundQuery, selectivity_count};
 ghost use Rattle.row_values.specs.declared.statement.TheConstants.{SELECTIVITY_LIMIT};
-ghost use Rattle.plan_trees.specs.PlaceSets.{are_disjoint, has, one};
+ghost use Rattle.plan_trees.specs.PlaceSets.{are_apart, has, one};
 ghost use Rattle.plan_trees.specs.PlanSpace.{IsValidAccess, IsValidPlan, IsValidStep, IsValidTop};
 ghost use Rattle.plan_trees.specs.Statistics.{IsSoundStats, selectivity_places};
 ghost use Rattle.plan_trees.specs.Trees.{place_entering, places_of, top_tree, tree};
@@ -18,11 +18,10 @@ use crate::accesses::{count_selectivities, is_selected, look_up_cost, scan_cost}
 use crate::cardinalities::{constant_part, is_parameterised};
 use crate::sorts::comparisons;
 use crate::steps::edge_fan;
-use cost_model::COST_SCALE;
 use growth_checker::Expr;
 use plan_trees::{
-    Access, Plan, Stats, StepKind, Top, has_place, one_place, place_read, step_place, with_place,
-    with_places,
+    Access, COST_SCALE, Plan, Stats, StepKind, Top, has_place, one_place, place_read, step_place,
+    with_place, with_places,
 };
 use row_values::{OutOfMemory, Pred, Query};
 use std::alloc::Global;
@@ -204,7 +203,7 @@ fn join_expr(
     requires sound { IsSoundStats q.now stats.now }
     requires left { left < 32 }
     requires right { right < 32 }
-    requires disjoint { IsTrue (are_disjoint left right) }
+    requires apart { IsTrue (are_apart left right) }
     ensures { IfOk result (λ e. formula e ≡ join_formula q.now stats.now left right) }
 {
     let outer = card_expr(alloc, q, stats, left)?;
@@ -263,7 +262,7 @@ fn after_join(
     requires sound { IsSoundStats q.now stats.now }
     requires left { outer.set < 32 }
     requires right { inner.set < 32 }
-    requires disjoint { IsTrue (are_disjoint outer.set inner.set) }
+    requires apart { IsTrue (are_apart outer.set inner.set) }
     ensures cost { IfOk result (λ made. formula made.cost
         ≡ Plus (Plus (formula outer.cost) (formula inner.cost))
         (join_formula q.now stats.now outer.set inner.set)) }

@@ -4,7 +4,7 @@
 ghost use Rattle.std.specs.Prelude.{◌≡◌, ◌<◌, ◌+◌, ◌*◌, ◌^◌, [], IsTrue, false, Some, length, slice_get, slice_index_or};
 ghost use Rattle.row_values.specs.Statements.{IsSoundQuery};
 ghost use Rattle.row_values.specs.declared.statement.Edge.{Edge as AnEdge};
-ghost use Rattle.plan_trees.specs.PlaceSets.{are_disjoint, has, one};
+ghost use Rattle.plan_trees.specs.PlaceSets.{are_apart, has, one};
 ghost use Rattle.plan_trees.specs.PlanSpace.{IsValidStep, column_in};
 ghost use Rattle.plan_trees.specs.Statistics.{IsSoundStats, IsSoundVector};
 ghost use Rattle.plan_trees.specs.declared.plans.StepKind.TheVariants as step;
@@ -103,7 +103,7 @@ pub fn join_cost(q: &Query, stats: &Stats, left: u8, right: u8, s: &[u64]) -> u1
     requires vector { IsSoundVector q.now stats.now s.now }
     requires left { IsPlaceSet q.now left }
     requires right { IsPlaceSet q.now right }
-    requires disjoint { IsTrue (are_disjoint left right) }
+    requires apart { IsTrue (are_apart left right) }
     ensures value { result ≡ costs.join_cost q.now stats.now s.now left right }
 {
     // That every statement is sound, its readers pass on: so it is read here once.

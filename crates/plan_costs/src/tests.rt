@@ -10,10 +10,9 @@ ghost use Rattle.cost_model.specs.Laws.{IsVectorOf};
 
 use crate::cardinalities::is_parameterised;
 use crate::{access_unit, card, join_cost, poly_of, sort_cost, step_cost};
-use cost_model::COST_SCALE;
 use cost_polynomials::Poly;
 use plan_trees::{
-    Access, Indexed, Plan, Stats, StepKind, Top, Weights, are_disjoint, is_valid_access,
+    Access, COST_SCALE, Indexed, Plan, Stats, StepKind, Top, Weights, are_apart, is_valid_access,
     is_valid_step, valid,
 };
 use row_values::{
@@ -337,7 +336,7 @@ fn join_over(q: &Query, stats: &Stats, left: u8, right: u8) -> Option<u128>
     requires sound { IsSoundStats q.now stats.now }
     requires vector { IsSoundVector q.now stats.now [] }
 {
-    if left == 0 || left >= 8 || right == 0 || right >= 8 || !are_disjoint(left, right) {
+    if left == 0 || left >= 8 || right == 0 || right >= 8 || !are_apart(left, right) {
         return None;
     }
     Some(join_cost(q, stats, left, right, &[]))

@@ -7,8 +7,7 @@ ghost use Rattle.row_values.specs.Statements.{is_parameterised};
 ghost use Rattle.plan_trees.specs.Statistics.{IsSoundStats, IsSoundVector};
 
 use crate::Costed;
-use cost_model::COST_SCALE;
-use plan_trees::{Access, Indexed, Plan, Stats, Top, Weights, valid};
+use plan_trees::{Access, COST_SCALE, Indexed, Plan, Stats, Top, Weights, valid};
 use row_values::{
     ColRef, Column, Edge, Item, Kind, Operand, OutOfMemory, Place, Pred, Query, Schema, Test, Words,
 };

@@ -7,6 +7,8 @@ pub mod PlaceCounts
 pub mod PlanLaws
 pub mod ReadLaws
 pub mod Readable
+pub mod SameTrees
 pub mod SoundParts
 pub mod ValidPlans
+pub mod WantedKeys
 pub mod Words

@@ -1,7 +1,7 @@
 -- How many places a set has, by trying all sets.
 use Rattle.std.proofs.Common.{ℕ, ◌≡◌, ◌≤◌, ◌<◌, ◌+◌, ◌==◌, ◌||◌, not, Bool, true, false, if◌then◌else◌, refl, arith}
 use Rattle.std.proofs.lemmas.Bool.{eqb-true}
-use Rattle.plan_trees.specs.PlaceSets.{has, one, are_disjoint}
+use Rattle.plan_trees.specs.PlaceSets.{has, one, are_apart}
 use Rattle.plan_trees.proofs.Bits.{all_pass, at_each, or_right}
 
 pub place_count : ℕ → ℕ
@@ -32,17 +32,17 @@ at_most_one true = omega arith
 at_most_one false = omega arith
 
 counts_both : ℕ → ℕ → Bool
-counts_both left right = not (are_disjoint left right) || (place_count (left + right) == place_count left + place_count right)
+counts_both left right = not (are_apart left right) || (place_count (left + right) == place_count left + place_count right)
 
 all_count_both : all_pass 32 (λ left. all_pass 32 (counts_both left)) ≡ true
 unfolding all_pass counts_both place_count
 all_count_both = refl
 
-pub both_places : (left right : ℕ) → left < 32 → right < 32 → are_disjoint left right ≡ true → place_count (left + right) ≡ place_count left + place_count right
+pub both_places : (left right : ℕ) → left < 32 → right < 32 → are_apart left right ≡ true → place_count (left + right) ≡ place_count left + place_count right
 unfolding counts_both
 both_places left right small few apart =
     let tried : counts_both left right ≡ true = at_each 32 (counts_both left) right (at_each 32 (λ left. all_pass 32 (counts_both left)) left all_count_both small) few in
-    eqb-true (place_count (left + right)) (place_count left + place_count right) (or_right (not (are_disjoint left right)) _ (rw apart refl) tried)
+    eqb-true (place_count (left + right)) (place_count left + place_count right) (or_right (not (are_apart left right)) _ (rw apart refl) tried)
 
 pub at_most_five : (set : ℕ) → place_count set ≤ 5
 unfolding place_count

@@ -2,7 +2,7 @@
 use Rattle.std.proofs.Common.{ℕ, ◌≡◌, ◌≤◌, ◌<◌, ◌+◌, ◌*◌, List, length, Bool, true, false, Option, Some, None, slice_get, IsSomeAnd, if◌then◌else◌, refl, sym, subst, arith}
 use Rattle.std.specs.Option.{option_map}
 use Rattle.std.proofs.lemmas.Option.{slice_get_within}
-use Rattle.row_values.specs.Statements.{Statement}
+use Rattle.row_values.specs.Statements.{Statement, IsSoundQuery}
 use Rattle.row_values.specs.declared.statement.ColRef.{ColRef}
 use Rattle.row_values.specs.declared.statement.Edge.{Edge}
 use Rattle.row_values.specs.declared.statement.Pred.{Pred}
@@ -46,7 +46,7 @@ plan_there q indexed (Sort outer) valid = plan_there q indexed outer valid.0
 
 -- It is nested as deep as it has places.
 
-entering_new : (q : Statement) (indexed : List ℕ) (set : ℕ) (step : StepKind) → IsValidStep q indexed set step → has set (place_entering step) ≡ false
+pub entering_new : (q : Statement) (indexed : List ℕ) (set : ℕ) (step : StepKind) → IsValidStep q indexed set step → has set (place_entering step) ≡ false
 entering_new q indexed set (Loop access) valid = valid.1
 entering_new q indexed set (Probe t e) valid = valid.1
 
@@ -106,6 +106,9 @@ nested q indexed plan few valid =
     let five = at_most_five (places_of plan) in
     let sort = at_most_one (is_sorted_plan q plan) in
     omega arith
+
+pub few_nested : (q : Statement) (indexed : List ℕ) (plan : Tree) → IsSoundQuery q → IsValidPlan q indexed plan → nesting plan ≤ 10
+few_nested q indexed plan sound valid = nested q indexed plan sound.few_places valid
 
 -- a valid plan's spelling is a plan text
 pub spelled_valid : (q : Statement) (indexed : List ℕ) (top : TopTree) → length q.places ≤ 5 → IsValidTop q indexed top → IsPlanText q (top_text q.places top) top

@@ -1,4 +1,5 @@
 pub mod Indexes
+pub mod Laws
 pub mod Lists
 pub mod Padded
 pub mod PlaceSets

@@ -13,6 +13,6 @@ one place = 2 ^ place
 abbrev pub all_below : ℕ → ℕ
 all_below count = 2 ^ count - 1
 
--- no place is in both sets; the set of the places of both is then their sum
-abbrev pub are_disjoint : ℕ → ℕ → Bool
-are_disjoint left right = bit_and left right == 0
+-- the two sets are apart: no place is in both; the set of the places of both is then their sum
+abbrev pub are_apart : ℕ → ℕ → Bool
+are_apart left right = bit_and left right == 0

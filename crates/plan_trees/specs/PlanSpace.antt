@@ -10,7 +10,7 @@ use Rattle.plan_trees.specs.declared.plans.Access.TheVariants.{Seq, Range, Full}
 use Rattle.plan_trees.specs.declared.plans.StepKind.{StepKind}
 use Rattle.plan_trees.specs.declared.plans.StepKind.TheVariants.{Loop, Probe}
 use Rattle.plan_trees.specs.Indexes.{has_index}
-use Rattle.plan_trees.specs.PlaceSets.{has, all_below, are_disjoint}
+use Rattle.plan_trees.specs.PlaceSets.{has, all_below, are_apart}
 use Rattle.plan_trees.specs.Trees.{Tree, Base, Join, HashJoin, Sort, TopTree, Rows, SortedGroups, HashGroups, place_of, places_of, plan_below}
 
 abbrev pub column_of : ℕ → ℕ → ColRef
@@ -68,15 +68,15 @@ IsValidStep q indexed set (Probe place edge) =
     (place < length q.places) × (has set place ≡ false)
     × IsSomeAnd (slice_get q.edges edge) (λ e. IsTrue (joins_to set place e) × IsTrue (has_index indexed place (column_in place e)))
 
--- the edge joins a place of the one set to a place of the other
-abbrev pub joins_sets : ℕ → ℕ → Edge → Bool
-joins_sets left right edge =
+-- the edge connects the two sets: it joins a place of the one to a place of the other
+abbrev pub connects : ℕ → ℕ → Edge → Bool
+connects left right edge =
     (has left edge.left.place && has right edge.right.place) || (has left edge.right.place && has right edge.left.place)
 
--- a hash join takes two sets together that have no place in common, on an edge between them
+-- a hash join takes two sets together that are apart, on an edge that connects them
 abbrev pub IsValidHashJoin : Statement → ℕ → ℕ → ℕ → Type 0
 IsValidHashJoin q left right edge =
-    IsTrue (are_disjoint left right) × IsSomeAnd (slice_get q.edges edge) (λ e. IsTrue (joins_sets left right e))
+    IsTrue (are_apart left right) × IsSomeAnd (slice_get q.edges edge) (λ e. IsTrue (connects left right e))
 
 -- Plans.
 

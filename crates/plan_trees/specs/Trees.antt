@@ -1,5 +1,5 @@
 -- Plans as trees without pointers, and the places of a tree.
-use Rattle.std.specs.Prelude.{ℕ, ◌+◌}
+use Rattle.std.specs.Prelude.{ℕ, ◌+◌, ◌==◌, ◌&&◌, Bool, false}
 use Rattle.plan_trees.specs.PlaceSets.{one}
 use Rattle.plan_trees.specs.declared.plans.Access.{Access}
 use Rattle.plan_trees.specs.declared.plans.Access.TheVariants.{Seq, Range, Full}
@@ -55,3 +55,29 @@ places_of (Base access) = one (place_of access)
 places_of (Join outer step) = places_of outer + one (place_entering step)
 places_of (HashJoin outer inner edge) = places_of outer + places_of inner
 places_of (Sort outer) = places_of outer
+
+-- The same plan: form by form, and number by number.
+
+abbrev pub same_access : Access → Access → Bool
+same_access (Seq t) (Seq u) = t == u
+same_access (Range t c j) (Range u d k) = t == u && c == d && j == k
+same_access (Full t c) (Full u d) = t == u && c == d
+same_access a b = false
+
+abbrev pub same_step : StepKind → StepKind → Bool
+same_step (Loop a) (Loop b) = same_access a b
+same_step (Probe t e) (Probe u f) = t == u && e == f
+same_step a b = false
+
+abbrev pub same_tree : Tree → Tree → Bool
+same_tree (Base a) (Base b) = same_access a b
+same_tree (Join p x) (Join q y) = same_step x y && same_tree p q
+same_tree (HashJoin p r e) (HashJoin q s f) = e == f && same_tree p q && same_tree r s
+same_tree (Sort p) (Sort q) = same_tree p q
+same_tree p q = false
+
+abbrev pub same_top : TopTree → TopTree → Bool
+same_top (Rows p) (Rows q) = same_tree p q
+same_top (SortedGroups p) (SortedGroups q) = same_tree p q
+same_top (HashGroups p) (HashGroups q) = same_tree p q
+same_top p q = false

@@ -10,15 +10,17 @@ mod place_sets;
 mod plans;
 mod printing;
 mod reading;
+mod scale;
 mod selectivities;
 mod statistics;
 mod validity;
 
 pub use listing::{accesses, hash_join_edge, steps};
-pub use place_sets::{all_places, are_disjoint, has_place, one_place, with_place, with_places};
+pub use place_sets::{all_places, are_apart, has_place, one_place, with_place, with_places};
 pub use plans::{Access, Plan, StepKind, Top, place_read, same, step_place};
 pub use printing::print_plan;
 pub use reading::{NESTING_LIMIT, PlanFault, read_plan};
+pub use scale::COST_SCALE;
 pub use selectivities::Vector;
 pub use statistics::{Indexed, Stats, Weights};
 pub use validity::{

@@ -2,7 +2,7 @@
 //!
 //! This is the one module that shifts and masks. A statement has at most five places, so a set is below 32.
 ghost use Rattle.std.specs.Prelude.{◌≡◌, ◌<◌, ◌≤◌, ◌+◌, ◌/◌, ◌%◌, ◌^◌, ◌==◌, IsTrue, false};
-ghost use Rattle.plan_trees.specs.PlaceSets.{all_below, are_disjoint as are_disjoint_sets, has, one};
+ghost use Rattle.plan_trees.specs.PlaceSets.{all_below, are_apart as apart_sets, has, one};
 
 use row_values::PLACE_LIMIT;
 
@@ -40,9 +40,9 @@ pub fn with_place(set: u8, place: u8) -> u8
     set + one_place(place)
 }
 
-/// Whether no place is in both sets.
-pub fn are_disjoint(left: u8, right: u8) -> bool
-    ensures { result ≡ are_disjoint_sets left right }
+/// Whether the two sets are apart: no place is in both.
+pub fn are_apart(left: u8, right: u8) -> bool
+    ensures { result ≡ apart_sets left right }
 {
     left & right == 0
 }
@@ -51,7 +51,7 @@ pub fn are_disjoint(left: u8, right: u8) -> bool
 pub fn with_places(left: u8, right: u8) -> u8
     requires left { left < 32 }
     requires right { right < 32 }
-    requires disjoint { IsTrue (are_disjoint_sets left right) }
+    requires apart { IsTrue (apart_sets left right) }
     ensures value { result ≡ left + right }
     ensures small { result < 32 }
 {

@@ -3,7 +3,7 @@
 //! Parts are shared by `Rc`, so that plans of many places can stand on one plan of fewer. Two plans are the same
 //! where they stand for the same tree, wherever they lie: `same` is the test.
 ghost use Rattle.std.specs.Prelude.{◌≡◌, ◌↔◌, IsTrue};
-ghost use Rattle.plan_trees.specs.Trees.{place_entering, place_of, top_tree, tree};
+ghost use Rattle.plan_trees.specs.Trees.{place_entering, place_of, same_top, top_tree, tree};
 
 use std::rc::Rc;
 
@@ -82,7 +82,7 @@ fn same_plan(a: &Plan, b: &Plan) -> bool
 
 /// Whether the two stand for the same tree. It takes no memory.
 pub fn same(a: &Top, b: &Top) -> bool
-    ensures { IsTrue result ↔ (top_tree a.now ≡ top_tree b.now) }
+    ensures { result ≡ same_top (top_tree a.now) (top_tree b.now) }
 {
     match (a, b) {
         (Top::Rows(p), Top::Rows(q)) => same_plan(p, q),

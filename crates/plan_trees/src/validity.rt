@@ -7,10 +7,10 @@ ghost use Rattle.std.specs.Option.{option_map};
 ghost use Rattle.plan_trees.specs.Indexes.{has_index};
 ghost use Rattle.row_values.specs.Statements.{IsColumn};
 ghost use Rattle.plan_trees.specs.PlaceSets.{all_below, one};
-ghost use Rattle.plan_trees.specs.PlanSpace.{IsValidAccess, IsValidHashJoin, IsValidStep, IsValidPlan, IsValidTop, SuitsStatement, ascending, column_of, column_in, joins_sets, joins_to, has_all_keys, is_grouped, is_only_key, is_sorted_access as gives_wanted_order, is_sorted_plan, wanted_order, wants_order};
+ghost use Rattle.plan_trees.specs.PlanSpace.{IsValidAccess, IsValidHashJoin, IsValidStep, IsValidPlan, IsValidTop, SuitsStatement, ascending, column_of, column_in, connects, joins_to, has_all_keys, is_grouped, is_only_key, is_sorted_access as gives_wanted_order, is_sorted_plan, wanted_order, wants_order};
 ghost use Rattle.plan_trees.specs.Trees.{place_entering, places_of, plan_below, top_tree, tree};
 
-use crate::place_sets::{all_places, are_disjoint, has_place, one_place, with_place, with_places};
+use crate::place_sets::{all_places, are_apart, has_place, one_place, with_place, with_places};
 use crate::plans::{Access, Plan, StepKind, Top, place_read, step_place};
 use crate::statistics::Indexed;
 use row_values::{ColRef, Edge, OrderKey, PLACE_LIMIT, Query};
@@ -110,21 +110,21 @@ pub fn is_valid_step(q: &Query, ix: &Indexed, set: u8, step: StepKind) -> bool
     }
 }
 
-/// Whether the edge joins a place of the one set to a place of the other.
-fn joins_both(left: u8, right: u8, edge: Edge) -> bool
-    ensures { result ≡ joins_sets left right edge }
+/// Whether the edge connects the two sets.
+fn connects_both(left: u8, right: u8, edge: Edge) -> bool
+    ensures { result ≡ connects left right edge }
 {
     (has_place(left, edge.left.place) && has_place(right, edge.right.place))
         || (has_place(left, edge.right.place) && has_place(right, edge.left.place))
 }
 
-/// Whether the edge is there and joins a place of the one set to a place of the other.
-fn is_joined(q: &Query, left: u8, right: u8, edge: u8) -> bool
+/// Whether the edge is there and connects the two sets.
+fn is_connected(q: &Query, left: u8, right: u8, edge: u8) -> bool
     ensures { IsTrue result ↔ IsSomeAnd (slice_get q.now.edges edge)
-        (λ e. IsTrue (joins_sets left right e)) }
+        (λ e. IsTrue (connects left right e)) }
 {
     match q.edges().get(usize::from(edge)) {
-        Some(there) => joins_both(left, right, *there),
+        Some(there) => connects_both(left, right, *there),
         None => false,
     }
 }
@@ -133,7 +133,7 @@ fn is_joined(q: &Query, left: u8, right: u8, edge: u8) -> bool
 pub fn is_valid_hash_join(q: &Query, left: u8, right: u8, edge: u8) -> bool
     ensures { IsTrue result ↔ IsValidHashJoin q.now left right edge }
 {
-    are_disjoint(left, right) && is_joined(q, left, right, edge)
+    are_apart(left, right) && is_connected(q, left, right, edge)
 }
 
 /// Whether this column ascending is the one wanted key.

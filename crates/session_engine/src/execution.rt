@@ -11,12 +11,12 @@ ghost use Rattle.session_engine.specs.Executed.{Executed};
 
 use csv_tables::Table;
 use plan_operators::scan;
-use plan_trees::{Access, Plan, Top, print_plan};
+use plan_trees::{Access, COST_SCALE, Plan, Top, print_plan};
 use result_shape::row_text;
 use row_values::{OutOfMemory, Query, Value, Words};
 use script_report::{Execution, Lines};
 use selectivity_counts::{selectivity_count, vector};
-use session_model::{COST_SCALE, RESULT_LIMIT, SELECTIVITIES_BUILT};
+use session_model::{RESULT_LIMIT, SELECTIVITIES_BUILT};
 use std::alloc::Global;
 use std::rc::Rc;
 

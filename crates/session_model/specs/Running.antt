@@ -9,13 +9,14 @@ use Rattle.row_values.specs.declared.refusals.TheConstants.{UNKNOWN_STATEMENT, A
 use Rattle.row_values.specs.declared.values.Kind.{Kind}
 use Rattle.row_values.specs.declared.values.Value.{Value}
 use Rattle.plan_trees.specs.declared.plans.Access.TheVariants.{Seq}
+use Rattle.plan_trees.specs.declared.scale.TheConstants.{COST_SCALE}
 use Rattle.plan_trees.specs.Trees.{TopTree, Base, Rows}
 use Rattle.plan_trees.specs.Spelling.{top_text}
 use Rattle.statement_meaning.specs.Combinations.{rows_at}
 use Rattle.statement_meaning.specs.Meaning.{meaning_of}
 use Rattle.statement_meaning.specs.Vectors.{vector_of}
 use Rattle.script_report.specs.declared.replies.Execution.{Execution}
-use Rattle.session_model.specs.declared.TheConstants.{COST_SCALE, RESULT_LIMIT, SELECTIVITIES_BUILT}
+use Rattle.session_model.specs.declared.TheConstants.{RESULT_LIMIT, SELECTIVITIES_BUILT}
 use Rattle.session_model.specs.Faults.{refusal}
 use Rattle.session_model.specs.Loading.{is_same_kind}
 use Rattle.session_model.specs.State.{TableState, StatementState, find_statement, tables_of}

@@ -18,7 +18,5 @@ pub const RESULT_LIMIT: usize = 1000000;
 /// The most parameterised predicates of a statement that is executed so far: with tables of at most 2^20 rows no such
 /// statement of one place passes the cost model's range.
 pub const SELECTIVITIES_BUILT: usize = 3;
-/// The unit of cost, 2^40: costs are whole numbers of this part of reading a row.
-pub const COST_SCALE: u128 = 1099511627776;
 
 pub mod laws;

@@ -1,5 +1,6 @@
 use Rattle.join_optimizer.specs.Found.{table_of}
-use Rattle.join_optimizer.specs.Search.{Offered, TakesBetween, TakesSplit}
+use Rattle.cost_model.specs.LeastCost.{TakesSplit}
+use Rattle.join_optimizer.specs.Search.{Offered, TakesBetween}
 use Rattle.join_optimizer.proofs.hash_joins.by_splits.Given as goal
 
 -- the inner sides so far were taken

@@ -1,5 +1,6 @@
 use Rattle.join_optimizer.specs.Found.{nothing, table_of}
-use Rattle.join_optimizer.specs.Search.{Offered, TakesBetween, TakesPlace}
+use Rattle.cost_model.specs.LeastCost.{TakesPlace}
+use Rattle.join_optimizer.specs.Search.{Offered, TakesBetween}
 use Rattle.join_optimizer.proofs.last_places.by_places.Given as goal
 
 -- the places so far were taken

@@ -1,5 +1,5 @@
 use Rattle.std.proofs.Common.{◌<◌, ◌*◌, ◌^◌, ap, arith}
-use Rattle.cost_model.specs.declared.scale.TheConstants.{COST_SCALE}
+use Rattle.plan_trees.specs.declared.scale.TheConstants.{COST_SCALE}
 use Rattle.join_optimizer.proofs.CostSums.{access_below}
 use Rattle.join_optimizer.proofs.Parts.{access_offered}
 use Rattle.join_optimizer.proofs.last_places.offer_access.Goals as goal

@@ -1,7 +1,7 @@
 use Rattle.std.proofs.Common.{◌≡◌, ◌*◌, ap, ◌∙◌, subst, map}
 use Rattle.std.specs.Int.{div_ceil}
 use Rattle.cost_model.specs.Cardinalities.{is_inside, marked_product}
-use Rattle.cost_model.specs.declared.scale.TheConstants.{COST_SCALE}
+use Rattle.plan_trees.specs.declared.scale.TheConstants.{COST_SCALE}
 use Rattle.cost_model.proofs.SoundNumbers.{preds_there}
 use Rattle.plan_costs.proofs.Cards.{are_parts, kappa_made}
 use Rattle.plan_costs.proofs.Factors.{rows_divisor}

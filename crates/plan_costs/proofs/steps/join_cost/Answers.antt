@@ -30,7 +30,7 @@ pub with_places-requires-clause-right : goal.with_places-requires-clause-right
 with_places-requires-clause-right c = small_set c.args.q.now c.args.right c.places.ensures.sound c.requires.right.there
 
 pub out_cost-requires-clause-there : goal.out_cost-requires-clause-there
-out_cost-requires-clause-there c = rw (c.with_places.ensures.value) (both_below c.args.left c.args.right _ c.requires.disjoint c.requires.left.there c.requires.right.there)
+out_cost-requires-clause-there c = rw (c.with_places.ensures.value) (both_below c.args.left c.args.right _ c.requires.apart c.requires.left.there c.requires.right.there)
 
 pub overflow_add-result : goal.overflow_add-result
 overflow_add-result c =

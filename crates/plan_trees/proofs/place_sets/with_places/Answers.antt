@@ -4,10 +4,10 @@ use Rattle.plan_trees.proofs.place_sets.with_places.Goals as goal
 
 pub overflow_add-result : goal.overflow_add-result
 overflow_add-result c =
-    let small = both_below c.args.left c.args.right 5 c.requires.disjoint c.requires.left c.requires.right in
+    let small = both_below c.args.left c.args.right 5 c.requires.apart c.requires.left c.requires.right in
     omega arith
 
 pub returns-clause-small : goal.returns-clause-small
 returns-clause-small c =
-    let small = both_below c.args.left c.args.right 5 c.requires.disjoint c.requires.left c.requires.right in
+    let small = both_below c.args.left c.args.right 5 c.requires.apart c.requires.left c.requires.right in
     omega arith
