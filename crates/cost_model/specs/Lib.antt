@@ -4,3 +4,4 @@ pub mod Costs
 pub mod Examples
 pub mod Laws
 pub mod LeastCost
+pub mod WeightExamples
