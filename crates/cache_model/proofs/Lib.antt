@@ -7,7 +7,6 @@ pub mod FirstPassing
 pub mod Lists
 pub mod LookUps
 pub mod Reusing
-pub mod SamePlans
 pub mod Saving
 pub mod Sizes
 pub mod Tests

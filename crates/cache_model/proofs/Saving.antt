@@ -8,17 +8,17 @@ use Rattle.std.proofs.lemmas.Option.{none-some, same_Some}
 use Rattle.fraction_math.specs.Fraction.{Fraction}
 use Rattle.row_values.specs.Statements.{Statement}
 use Rattle.plan_trees.specs.Statistics.{Statistics}
-use Rattle.plan_trees.specs.Trees.{TopTree}
+use Rattle.plan_trees.proofs.SameTrees.{same_tops}
+use Rattle.plan_trees.specs.Trees.{TopTree, same_top}
 use Rattle.cost_model.specs.Costs.{top_cost}
 use Rattle.cache_model.specs.Caches.{Anchor, CachedPlan, CacheState, top_numbered, uses_of, with_anchor, without}
 use Rattle.cache_model.specs.Faithful.{IsFaithfulAnchor, IsFaithfulCache, IsFaithfulPlan, IsWide}
-use Rattle.cache_model.specs.Keeping.{KeptNothing, Optimum, added, anchor_of, covering, covers, evicted_for_room, first_least, is_same_plan, kept_after, kept_with_new, kept_with_old, old_plan, victim, with_room}
+use Rattle.cache_model.specs.Keeping.{KeptNothing, Optimum, added, anchor_of, covering, covers, evicted_for_room, first_least, kept_after, kept_with_new, kept_with_old, old_plan, victim, with_room}
 use Rattle.cache_model.specs.Laws.{IsNextOf, IsOptimum}
 use Rattle.cache_model.specs.declared.limits.TheConstants.{ANCHOR_LIMIT}
 use Rattle.cache_model.proofs.Evicting.{faithful_without}
 use Rattle.cache_model.proofs.Lists.{all_from, each_filter, each_from, each_push, each_to, each_two_from, found_is, length-filter, none_found, pairs_from, two_push}
 use Rattle.cache_model.proofs.LookUps.{anchored_new, anchored_push, each_by_number, each_shortens, is_of_other, is_other, numbered_new, numbered_push}
-use Rattle.cache_model.proofs.SamePlans.{same_if_equal}
 use Rattle.cache_model.proofs.Reusing.{Rises, anchor_later, faithful_after}
 
 -- One more anchor.
@@ -200,19 +200,19 @@ or_none (Some x) second e = absurd (none-some x (sym e))
 
 -- an older plan is the one of its number
 old_is_numbered : (cache : CacheState) (q : Statement) (s : Statistics) (executions budget : ℕ) (optimum : Optimum) (keep : Fraction) (cost : TopTree → ℕ) (plan : CachedPlan) → IsFaithfulCache cache q s executions budget
-    → old_plan q optimum keep cost cache.plans ≡ Some plan → top_numbered cache.plans plan.number ≡ Some plan.top
+    → old_plan optimum keep cost cache.plans ≡ Some plan → top_numbered cache.plans plan.number ≡ Some plan.top
 old_is_numbered cache q s executions budget optimum keep cost plan h e =
     let each = each_by_number cache.plans (each_two_from (λ a b. a.number < b.number) cache.plans h.numbers_rise) in
-    or_by (λ x. top_numbered cache.plans x.number ≡ Some x.top) (find (λ x. is_same_plan q x.top optimum.top) cache.plans) (covering keep optimum.least cost cache.plans) plan
-    (λ z k. (found_is (λ x. top_numbered cache.plans x.number ≡ Some x.top) (λ x. is_same_plan q x.top optimum.top) cache.plans z each k).0)
+    or_by (λ x. top_numbered cache.plans x.number ≡ Some x.top) (find (λ x. same_top x.top optimum.top) cache.plans) (covering keep optimum.least cost cache.plans) plan
+    (λ z k. (found_is (λ x. top_numbered cache.plans x.number ≡ Some x.top) (λ x. same_top x.top optimum.top) cache.plans z each k).0)
     (λ z k. first_least_has (λ x. top_numbered cache.plans x.number ≡ Some x.top) (λ x. cost x.top) (filter (λ x. covers keep optimum.least (cost x.top)) cache.plans) z
     (each_filter (λ x. top_numbered cache.plans x.number ≡ Some x.top) (λ x. top_numbered cache.plans x.number ≡ Some x.top) (λ x. covers keep optimum.least (cost x.top)) (λ x _ f. f) cache.plans each) k) e
 
 -- where there is none, each plan is another tree
-old_is_other : (q : Statement) (optimum : Optimum) (keep : Fraction) (cost : TopTree → ℕ) (plans : List CachedPlan) → old_plan q optimum keep cost plans ≡ None → AllByRecursion (λ plan. plan.top ≢ optimum.top) plans
-old_is_other q optimum keep cost plans e =
-    each_to (λ plan. is_same_plan q plan.top optimum.top ≡ false) (λ plan. plan.top ≢ optimum.top) (λ plan f k. false≢true (sym f ∙ same_if_equal q plan.top optimum.top k)) plans
-    (none_found (λ plan. is_same_plan q plan.top optimum.top) plans (or_none (find (λ plan. is_same_plan q plan.top optimum.top) plans) (covering keep optimum.least cost plans) e))
+old_is_other : (optimum : Optimum) (keep : Fraction) (cost : TopTree → ℕ) (plans : List CachedPlan) → old_plan optimum keep cost plans ≡ None → AllByRecursion (λ plan. plan.top ≢ optimum.top) plans
+old_is_other optimum keep cost plans e =
+    each_to (λ plan. same_top plan.top optimum.top ≡ false) (λ plan. plan.top ≢ optimum.top) (λ plan f k. false≢true (sym f ∙ (same_tops plan.top optimum.top).1 k)) plans
+    (none_found (λ plan. same_top plan.top optimum.top) plans (or_none (find (λ plan. same_top plan.top optimum.top) plans) (covering keep optimum.least cost plans) e))
 
 kept_new : (cache : CacheState) (q : Statement) (s : Statistics) (executions budget : ℕ) (optimum : Optimum) → ¬ IsWide q s → IsOptimum q s optimum → optimum.execution ≡ executions + 1 → HasRoom cache (with_room cache budget) q s executions budget optimum.top
     → IsFaithfulCache (kept_with_new cache optimum (top_cost q s optimum.at) budget).cache q s (executions + 1) budget
@@ -220,20 +220,20 @@ kept_new cache q s executions budget optimum narrow is_optimum now base =
     faithful_with_new (with_room cache budget) q s executions budget optimum base.faithful narrow base.room base.few base.others is_optimum now
 
 kept_old : (cache : CacheState) (q : Statement) (s : Statistics) (executions budget : ℕ) (optimum : Optimum) (keep : Fraction) → 1 ≤ budget → ¬ IsWide q s → IsOptimum q s optimum → optimum.execution ≡ executions + 1
-    → IsFaithfulCache cache q s executions budget → length cache.anchors < ANCHOR_LIMIT → (found : Option CachedPlan) → old_plan q optimum keep (top_cost q s optimum.at) cache.plans ≡ found
+    → IsFaithfulCache cache q s executions budget → length cache.anchors < ANCHOR_LIMIT → (found : Option CachedPlan) → old_plan optimum keep (top_cost q s optimum.at) cache.plans ≡ found
     → IsFaithfulCache (option_map_or (kept_with_old cache optimum (top_cost q s optimum.at)) found (kept_with_new cache optimum (top_cost q s optimum.at) budget)).cache q s (executions + 1) budget
 kept_old cache q s executions budget optimum keep some narrow is_optimum now h room (Some plan) e =
     faithful_with_old cache q s executions budget optimum plan.number plan.top h narrow room (old_is_numbered cache q s executions budget optimum keep (top_cost q s optimum.at) plan h e) is_optimum now
 kept_old cache q s executions budget optimum keep some narrow is_optimum now h room None e =
-    kept_new cache q s executions budget optimum narrow is_optimum now (has_room cache q s executions budget optimum.top some h room (old_is_other q optimum keep (top_cost q s optimum.at) cache.plans e))
+    kept_new cache q s executions budget optimum narrow is_optimum now (has_room cache q s executions budget optimum.top some h room (old_is_other optimum keep (top_cost q s optimum.at) cache.plans e))
 
 kept_by : (cache : CacheState) (q : Statement) (s : Statistics) (executions budget : ℕ) (optimum : Optimum) (keep : Fraction) → 1 ≤ budget → ¬ IsWide q s → IsOptimum q s optimum → optimum.execution ≡ executions + 1
     → IsFaithfulCache cache q s executions budget → (b : Bool) → nat_lt (length cache.anchors) ANCHOR_LIMIT ≡ b
     → IsFaithfulCache
-    (cond b (option_map_or (kept_with_old cache optimum (top_cost q s optimum.at)) (old_plan q optimum keep (top_cost q s optimum.at) cache.plans) (kept_with_new cache optimum (top_cost q s optimum.at) budget))
+    (cond b (option_map_or (kept_with_old cache optimum (top_cost q s optimum.at)) (old_plan optimum keep (top_cost q s optimum.at) cache.plans) (kept_with_new cache optimum (top_cost q s optimum.at) budget))
     (record { cache = cache; evicted = None; kept = KeptNothing })).cache q s (executions + 1) budget
 kept_by cache q s executions budget optimum keep some narrow is_optimum now h true e =
-    kept_old cache q s executions budget optimum keep some narrow is_optimum now h (ltb-true (length cache.anchors) ANCHOR_LIMIT e) (old_plan q optimum keep (top_cost q s optimum.at) cache.plans) refl
+    kept_old cache q s executions budget optimum keep some narrow is_optimum now h (ltb-true (length cache.anchors) ANCHOR_LIMIT e) (old_plan optimum keep (top_cost q s optimum.at) cache.plans) refl
 kept_by cache q s executions budget optimum keep some narrow is_optimum now h false e =
     faithful_after cache q s executions (executions + 1) budget budget (omega arith) (omega arith) h
 
@@ -258,4 +258,4 @@ next_by cache optimum cost budget false found = record { goes_on = omega arith; 
 
 pub next_kept : (cache : CacheState) (q : Statement) (s : Statistics) (optimum : Optimum) (keep : Fraction) (budget : ℕ) → IsNextOf cache.next_plan (kept_after cache q s optimum keep budget).cache.next_plan
 next_kept cache q s optimum keep budget =
-    next_by cache optimum (top_cost q s optimum.at) budget (nat_lt (length cache.anchors) ANCHOR_LIMIT) (old_plan q optimum keep (top_cost q s optimum.at) cache.plans)
+    next_by cache optimum (top_cost q s optimum.at) budget (nat_lt (length cache.anchors) ANCHOR_LIMIT) (old_plan optimum keep (top_cost q s optimum.at) cache.plans)

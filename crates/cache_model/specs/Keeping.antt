@@ -2,12 +2,10 @@
 use Rattle.std.specs.Prelude.{ℕ, ◌*◌, nat_lt, Bool, List, [], ◌∷◌, length, filter, find, Option, Some, None, if◌then◌else◌}
 use Rattle.std.specs.List.{best_of}
 use Rattle.std.specs.Option.{option_map, option_map_or, option_or}
-use Rattle.std.specs.Str.{bytes_eq}
 use Rattle.fraction_math.specs.Fraction.{Fraction}
 use Rattle.row_values.specs.Statements.{Statement}
-use Rattle.plan_trees.specs.Spelling.{top_text}
 use Rattle.plan_trees.specs.Statistics.{Statistics}
-use Rattle.plan_trees.specs.Trees.{TopTree}
+use Rattle.plan_trees.specs.Trees.{TopTree, same_top}
 use Rattle.cost_model.specs.Costs.{top_cost}
 use Rattle.cache_model.specs.Caches.{Anchor, CachedPlan, CacheState, anchors_of, uses_of, with_anchor, with_plan, without}
 use Rattle.cache_model.specs.Choices.{is_at_most_in_128}
@@ -27,10 +25,6 @@ first_least number (x ∷ xs) = Some (best_of (λ y least. nat_lt (number y) (nu
 
 -- Redundant plans.
 
--- spelled alike: of valid plans this is the same tree
-unfoldable pub is_same_plan : Statement → TopTree → TopTree → Bool
-is_same_plan q a b = bytes_eq (top_text q.places a) (top_text q.places b)
-
 -- a plan of this cost is within the ratio of the least cost
 abbrev pub covers : Fraction → ℕ → ℕ → Bool
 covers keep least cost = is_at_most_in_128 (cost * keep.den) (keep.num * least)
@@ -40,8 +34,8 @@ abbrev pub covering : Fraction → ℕ → (TopTree → ℕ) → List CachedPlan
 covering keep least cost plans = first_least (λ plan. cost plan.top) (filter (λ plan. covers keep least (cost plan.top)) plans)
 
 -- the plan that is there already and serves: the same, else one that covers
-abbrev pub old_plan : Statement → Optimum → Fraction → (TopTree → ℕ) → List CachedPlan → Option CachedPlan
-old_plan q optimum keep cost plans = option_or (find (λ plan. is_same_plan q plan.top optimum.top) plans) (covering keep optimum.least cost plans)
+abbrev pub old_plan : Optimum → Fraction → (TopTree → ℕ) → List CachedPlan → Option CachedPlan
+old_plan optimum keep cost plans = option_or (find (λ plan. same_top plan.top optimum.top) plans) (covering keep optimum.least cost plans)
 
 -- Room for a plan.
 
@@ -101,11 +95,11 @@ kept_with_new cache optimum cost budget = record {
 
 -- what is kept where plans cost so much at the optimum's vector: nothing in a full cache; else an anchor with an old plan
 -- that serves, or with the optimum's own
-abbrev pub kept_at : CacheState → Statement → Optimum → (TopTree → ℕ) → Fraction → ℕ → Keeping
-kept_at cache q optimum cost keep budget =
+abbrev pub kept_at : CacheState → Optimum → (TopTree → ℕ) → Fraction → ℕ → Keeping
+kept_at cache optimum cost keep budget =
     if nat_lt (length cache.anchors) ANCHOR_LIMIT
-    then option_map_or (kept_with_old cache optimum cost) (old_plan q optimum keep cost cache.plans) (kept_with_new cache optimum cost budget)
+    then option_map_or (kept_with_old cache optimum cost) (old_plan optimum keep cost cache.plans) (kept_with_new cache optimum cost budget)
     else record { cache = cache; evicted = None; kept = KeptNothing }
 
 abbrev pub kept_after : CacheState → Statement → Statistics → Optimum → Fraction → ℕ → Keeping
-kept_after cache q s optimum keep budget = kept_at cache q optimum (top_cost q s optimum.at) keep budget
+kept_after cache q s optimum keep budget = kept_at cache optimum (top_cost q s optimum.at) keep budget

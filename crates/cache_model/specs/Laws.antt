@@ -1,7 +1,6 @@
 -- What the laws of plan caches say, for all caches, statements and statistics.
 use Rattle.std.specs.Prelude.{ℕ, ◌≡◌, ◌<◌, ◌≤◌, ◌+◌, ◌*◌, ◌^◌, ◌⊎◌, min, max, false, IsTrue, ◌↔◌, List, length, take, All, AllPairs, slice_index, slice_get, Some}
 use Rattle.fraction_math.specs.Fraction.{Fraction}
-use Rattle.row_values.specs.Columns.{IsSchema}
 use Rattle.row_values.specs.Statements.{Statement, IsSoundQuery}
 use Rattle.plan_trees.specs.PlanSpace.{IsValidTop}
 use Rattle.plan_trees.specs.Statistics.{Statistics, IsSoundStats, IsSoundVector}
@@ -13,7 +12,7 @@ use Rattle.cost_model.specs.LeastCost.{IsLeastCost}
 use Rattle.cache_model.specs.Caches.{Anchor, CachedPlan, CacheState, cleared, empty_cache, reused, top_numbered, without}
 use Rattle.cache_model.specs.Choices.{ByCost, ByOptimum, BySelectivity, Candidate, Choice, by_nearness, candidates_of, choice_of, greater_product, is_nearer, passes_cost_check, passes_selectivity_check, placed_from, position_chosen}
 use Rattle.cache_model.specs.Faithful.{IsFaithfulCache, IsWide}
-use Rattle.cache_model.specs.Keeping.{Optimum, is_same_plan, kept_after}
+use Rattle.cache_model.specs.Keeping.{Optimum, kept_after}
 
 -- The checks as tests say what the checks say.
 
@@ -75,12 +74,6 @@ abbrev pub NextPlanLaw : Type 0
 NextPlanLaw =
     (cache : CacheState) (q : Statement) (s : Statistics) (optimum : Optimum) (keep : Fraction) (budget : ℕ)
     → IsNextOf cache.next_plan (kept_after cache q s optimum keep budget).cache.next_plan
-
--- what counts as the same plan is the same tree
-abbrev pub SamePlanLaw : Type 0
-SamePlanLaw =
-    (q : Statement) (indexed : List ℕ) (a b : TopTree) → IsSoundQuery q → All (λ place. IsSchema place.schema) q.places → IsValidTop q indexed a → IsValidTop q indexed b
-    → IsTrue (is_same_plan q a b) ↔ (a ≡ b)
 
 -- The bound.
 

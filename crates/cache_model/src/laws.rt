@@ -1,5 +1,5 @@
 //! Laws of plan caches. Their promise is the clause; there is nothing to run.
-ghost use Rattle.cache_model.specs.Laws.{AnchorCostsLaw, CandidatesLaw, ChoiceBoundLaw, ChoiceLaw, ClearedIsFaithful, CostTestLaw, EmptyIsFaithful, EvictLaw, FaithfulLater, KeepingLaw, NextPlanLaw, OneLeastCostLaw, ReuseLaw, SamePlanLaw, SelectivityTestLaw, VectorsFitLaw, WindowLaw};
+ghost use Rattle.cache_model.specs.Laws.{AnchorCostsLaw, CandidatesLaw, ChoiceBoundLaw, ChoiceLaw, ClearedIsFaithful, CostTestLaw, EmptyIsFaithful, EvictLaw, FaithfulLater, KeepingLaw, NextPlanLaw, OneLeastCostLaw, ReuseLaw, SelectivityTestLaw, VectorsFitLaw, WindowLaw};
 
 /// The selectivity check as a test passes exactly where the check does.
 pub fn selectivity_test_tells()
@@ -44,11 +44,6 @@ pub fn keeping_keeps_faithful()
 /// Keeping gives one plan number at most, and none again.
 pub fn plan_numbers_go_on()
     ensures { NextPlanLaw }
-{}
-
-/// What keeping takes for the same plan is the same tree.
-pub fn same_plan_tells()
-    ensures { SamePlanLaw }
 {}
 
 /// What a faithful cache lets be used again is valid, and costs at most `num / den` times the least.
