@@ -1,1 +1,2 @@
 mod ProductSteps
+pub mod Factors

@@ -6,8 +6,8 @@ abbrev pub product_of : List ℕ → ℕ
 product_of [] = 1
 product_of (x ∷ xs) = x * product_of xs
 
--- the two products fit 128 bits, and the left one is at most the right one
-pub record IsAtMost (left right : List ℕ) : Type 0 where
-  pub left_fits : product_of left < 2 ^ 128
-  pub right_fits : product_of right < 2 ^ 128
-  pub at_most : product_of left ≤ product_of right
+-- both numbers fit 128 bits, and the left one is at most the right one
+pub record IsAtMost (left right : ℕ) : Type 0 where
+  pub left_fits : left < 2 ^ 128
+  pub right_fits : right < 2 ^ 128
+  pub at_most : left ≤ right

@@ -23,7 +23,7 @@ pub fn product(xs: &[u128]) -> Option<u128>
 pub fn le_scaled(left: &[u128], right: &[u128]) -> bool
     requires left { All (λ x. 1 ≤ x) left.now }
     requires right { All (λ x. 1 ≤ x) right.now }
-    ensures value { IsTrue result ↔ IsAtMost left.now right.now }
+    ensures value { IsTrue result ↔ IsAtMost (product_of left.now) (product_of right.now) }
 {
     match (product(left), product(right)) {
         (Some(l), Some(r)) => l <= r,
