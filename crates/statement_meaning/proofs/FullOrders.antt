@@ -31,7 +31,8 @@ key_total tables key = by_way key.descending
     up : IsTotalOrder (column_order tables key.at)
     up = on_total (λ (c : List ℕ). cell_of tables c key.at) cell_order_total
 
-    by_way : (descending : Bool) → IsTotalOrder (λ (a : List ℕ) (b : List ℕ). cond descending (column_order tables key.at b a) (column_order tables key.at a b))
+    by_way : (descending : Bool)
+        → IsTotalOrder (λ (a : List ℕ) (b : List ℕ). cond descending (column_order tables key.at b a) (column_order tables key.at a b))
     by_way true = back_total up
     by_way false = up
 
@@ -58,7 +59,9 @@ last_equal Equal n e = e
 last_equal Greater n e = cc
 
 pub earlier_full : (tables : List (List (List Value))) (keys : List OrderKey) → IsFullOrder (is_earlier tables keys)
-earlier_full tables keys = full_order_from (full_order tables keys) (full_total tables keys) (λ a b e. exact_bytes a b (last_equal (keys_order tables keys a b) (slice_cmp nat_cmp a b) e))
+earlier_full tables keys =
+    full_order_from (full_order tables keys) (full_total tables keys)
+    (λ a b e. exact_bytes a b (last_equal (keys_order tables keys a b) (slice_cmp nat_cmp a b) e))
 
 -- not before by the keys, and not lower
 not_both : (o n : Ordering) → is_lt o ≡ false → is_lt n ≡ false → is_lt (ordering_then o n) ≡ false
@@ -73,27 +76,43 @@ turned Greater y n e h = refl
 turned x Equal n e h = absurd (false≢true h)
 turned x Greater n e h = absurd (false≢true h)
 
-put_stable : (tables : List (List (List Value))) (keys : List OrderKey) (x : List ℕ) (ys : List (List ℕ)) → Rises (is_earlier tables keys) ys → All (λ z. is_lower z x ≡ false) ys → Rises (is_earlier tables keys) (put_in (is_before tables keys) x ys)
+put_stable : (tables : List (List (List Value))) (keys : List OrderKey) (x : List ℕ) (ys : List (List ℕ))
+    → Rises (is_earlier tables keys) ys → All (λ z. is_lower z x ≡ false) ys
+    → Rises (is_earlier tables keys) (put_in (is_before tables keys) x ys)
 put_stable tables keys x [] r a = (All-nil (λ z. is_earlier tables keys z x ≡ false), tt)
-put_stable tables keys x (y ∷ ys) r a = by_test (is_before tables keys y x) refl (put_stable tables keys x ys r.1 (All-tail (λ z. is_lower z x ≡ false) y ys a))
+put_stable tables keys x (y ∷ ys) r a =
+    by_test (is_before tables keys y x) refl
+    (put_stable tables keys x ys r.1 (All-tail (λ z. is_lower z x ≡ false) y ys a))
   where
-    by_test : (b : Bool) → is_before tables keys y x ≡ b → Rises (is_earlier tables keys) (put_in (is_before tables keys) x ys) → Rises (is_earlier tables keys) (cond b (y ∷ put_in (is_before tables keys) x ys) (x ∷ (y ∷ ys)))
-    by_test true e more = (all_put (is_before tables keys) (λ z. is_earlier tables keys z y ≡ false) x ys (turned (keys_order tables keys x y) (keys_order tables keys y x) (slice_cmp nat_cmp x y) ((keys_total tables keys).antisymm x y) e) r.0, more)
+    by_test : (b : Bool) → is_before tables keys y x ≡ b
+        → Rises (is_earlier tables keys) (put_in (is_before tables keys) x ys)
+        → Rises (is_earlier tables keys) (cond b (y ∷ put_in (is_before tables keys) x ys) (x ∷ (y ∷ ys)))
+    by_test true e more =
+        (all_put (is_before tables keys) (λ z. is_earlier tables keys z y ≡ false) x ys (turned (keys_order tables keys x y) (keys_order tables keys y x) (slice_cmp nat_cmp x y) ((keys_total tables keys).antisymm x y) e) r.0, more)
     by_test false e more =
         let first : is_earlier tables keys y x ≡ false = not_both (keys_order tables keys y x) (slice_cmp nat_cmp y x) e (All-head (λ z. is_lower z x ≡ false) y ys a) in
         (All-cons (λ z. is_earlier tables keys z x ≡ false) y ys first (λ i d h. (earlier_full tables keys).ranks.chain _ y x (r.0 i d h) first), r)
 
-pub rises_stable : (tables : List (List (List Value))) (keys : List OrderKey) (xs : List (List ℕ)) → Rises is_lower xs → Rises (is_earlier tables keys) (in_order (is_before tables keys) xs)
+pub rises_stable : (tables : List (List (List Value))) (keys : List OrderKey) (xs : List (List ℕ)) → Rises is_lower xs
+    → Rises (is_earlier tables keys) (in_order (is_before tables keys) xs)
 rises_stable tables keys [] r = tt
-rises_stable tables keys (x ∷ xs) r = put_stable tables keys x (in_order (is_before tables keys) xs) (rises_stable tables keys xs r.1) (all_in_order (is_before tables keys) (λ z. is_lower z x ≡ false) xs r.0)
+rises_stable tables keys (x ∷ xs) r =
+    put_stable tables keys x (in_order (is_before tables keys) xs) (rises_stable tables keys xs r.1)
+    (all_in_order (is_before tables keys) (λ z. is_lower z x ≡ false) xs r.0)
 
 -- first by row numbers, then stably by keys: the same as once by both
-pub one_sort : (tables : List (List (List Value))) (keys : List OrderKey) (cs : List (List ℕ)) → in_order (is_before tables keys) (in_order is_lower cs) ≡ in_order (is_earlier tables keys) cs
+pub one_sort : (tables : List (List (List Value))) (keys : List OrderKey) (cs : List (List ℕ))
+    → in_order (is_before tables keys) (in_order is_lower cs) ≡ in_order (is_earlier tables keys) cs
 one_sort tables keys cs =
-    risen_is_sorted is_same exact_lists (is_earlier tables keys) (earlier_full tables keys) cs (in_order (is_before tables keys) (in_order is_lower cs))
+    risen_is_sorted is_same exact_lists (is_earlier tables keys) (earlier_full tables keys) cs
+    (in_order (is_before tables keys) (in_order is_lower cs))
     (λ c. times_in_order is_same (is_before tables keys) (in_order is_lower cs) c ∙ times_in_order is_same is_lower cs c)
     (rises_stable tables keys (in_order is_lower cs) (rises_in_order is_lower lower_full.ranks cs))
 
 -- so std's sort by both, stable or not, gives the stable order of the meaning
-pub sorted_by_both : (tables : List (List (List Value))) (keys : List OrderKey) (cs ds : List (List ℕ)) → IsPermutation cs ds → IsSortedBy (is_earlier tables keys) ds → ds ≡ in_order (is_before tables keys) (in_order is_lower cs)
-sorted_by_both tables keys cs ds p s = sorted_is is_same exact_lists (is_earlier tables keys) (earlier_full tables keys) cs ds p s ∙ sym (one_sort tables keys cs)
+pub sorted_by_both : (tables : List (List (List Value))) (keys : List OrderKey) (cs ds : List (List ℕ))
+    → IsPermutation cs ds → IsSortedBy (is_earlier tables keys) ds
+    → ds ≡ in_order (is_before tables keys) (in_order is_lower cs)
+sorted_by_both tables keys cs ds p s =
+    sorted_is is_same exact_lists (is_earlier tables keys) (earlier_full tables keys) cs ds p s
+    ∙ sym (one_sort tables keys cs)

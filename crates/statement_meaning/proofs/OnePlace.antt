@@ -18,7 +18,8 @@ use Rattle.statement_meaning.specs.Combinations.{World, combinations, sizes_from
 use Rattle.statement_meaning.specs.Conditions.{row_passes}
 
 -- a column of the one place
-pub only_place : (place : Place) (at number : ℕ) → IsColumn (place ∷ []) (record { place = at; column = number }) → at ≡ 0
+pub only_place : (place : Place) (at number : ℕ) → IsColumn (place ∷ []) (record { place = at; column = number })
+    → at ≡ 0
 only_place place zero number h = refl
 only_place place (suc at) number h = absurd (false≢true h)
 
@@ -27,7 +28,8 @@ operand_left : (left : Option Kind) (a : Operand) → IsOperand left a → IsSom
 operand_left left (Literal value) h = subst IsSome (sym h) refl
 operand_left left (Param number) h = h
 
-first_left : (left : Option Kind) (operands : List Operand) → 0 < length operands → All (IsOperand left) operands → IsSome left
+first_left : (left : Option Kind) (operands : List Operand) → 0 < length operands → All (IsOperand left) operands
+    → IsSome left
 first_left left [] some h = absurd (omega (arith, some))
 first_left left (a ∷ operands) some h = operand_left left a (All-head (IsOperand left) a operands h)
 
@@ -42,28 +44,34 @@ test_left left (OneOf operands) h = first_left left operands h.0.some h.1
 
 on_it : (places : List Place) → length places ≡ 1 → (pred : Pred) → IsPred places pred → pred.at.place ≡ 0
 on_it [] l pred h = absurd (omega (arith, l))
-on_it (place ∷ []) l pred h = only_place place pred.at.place pred.at.column (test_left (kind_at (place ∷ []) pred.at) pred.test h)
+on_it (place ∷ []) l pred h =
+    only_place place pred.at.place pred.at.column (test_left (kind_at (place ∷ []) pred.at) pred.test h)
 on_it (place ∷ (other ∷ places)) l pred h = absurd (omega (arith, l))
 
 -- so each predicate of a statement of one place is on that place
 pub on_one_place : (q : Statement) → IsSoundQuery q → length q.places ≡ 1 → All (λ pred. pred.at.place ≡ 0) q.preds
-on_one_place q s l = All-weaker (IsPred q.places) (λ pred. pred.at.place ≡ 0) (λ pred. on_it q.places l pred) q.preds s.preds
+on_one_place q s l =
+    All-weaker (IsPred q.places) (λ pred. pred.at.place ≡ 0) (λ pred. on_it q.places l pred) q.preds s.preds
 
 no_edge : (places : List Place) → length places ≡ 1 → (edge : Edge) → IsEdge places edge → ⊥
 no_edge [] l edge e = absurd (omega (arith, l))
 no_edge (place ∷ []) l edge e =
-    e.two_places (only_place place edge.left.place edge.left.column e.there ∙ sym (only_place place edge.right.place edge.right.column (subst IsSome e.one_kind e.there)))
+    e.two_places
+    (only_place place edge.left.place edge.left.column e.there ∙ sym (only_place place edge.right.place edge.right.column (subst IsSome e.one_kind e.there)))
 no_edge (place ∷ (other ∷ places)) l edge e = absurd (omega (arith, l))
 
 no_edges : (places : List Place) → length places ≡ 1 → (edges : List Edge) → All (IsEdge places) edges → edges ≡ []
 no_edges places l [] a = refl
 no_edges places l (edge ∷ edges) a = absurd (no_edge places l edge (All-head (IsEdge places) edge edges a))
 
-singles : (p : List ℕ → Bool) (rows : List ℕ) → filter p (flat_map (λ row. map (λ rest. row ∷ rest) ([] ∷ [])) rows) ≡ map (λ row. row ∷ []) (filter (λ row. p (row ∷ [])) rows)
+singles : (p : List ℕ → Bool) (rows : List ℕ)
+    → filter p (flat_map (λ row. map (λ rest. row ∷ rest) ([] ∷ [])) rows) ≡ map (λ row. row ∷ []) (filter (λ row. p (row ∷ [])) rows)
 singles p [] = refl
 singles p (row ∷ rows) = by_test (p (row ∷ [])) (singles p rows)
   where
-    by_test : (b : Bool) → filter p (flat_map (λ row. map (λ rest. row ∷ rest) ([] ∷ [])) rows) ≡ map (λ row. row ∷ []) (filter (λ row. p (row ∷ [])) rows) → cond b ((row ∷ []) ∷ filter p (flat_map (λ row. map (λ rest. row ∷ rest) ([] ∷ [])) rows)) (filter p (flat_map (λ row. map (λ rest. row ∷ rest) ([] ∷ [])) rows)) ≡ map (λ row. row ∷ []) (cond b (row ∷ filter (λ row. p (row ∷ [])) rows) (filter (λ row. p (row ∷ [])) rows))
+    by_test : (b : Bool)
+        → filter p (flat_map (λ row. map (λ rest. row ∷ rest) ([] ∷ [])) rows) ≡ map (λ row. row ∷ []) (filter (λ row. p (row ∷ [])) rows)
+        → cond b ((row ∷ []) ∷ filter p (flat_map (λ row. map (λ rest. row ∷ rest) ([] ∷ [])) rows)) (filter p (flat_map (λ row. map (λ rest. row ∷ rest) ([] ∷ [])) rows)) ≡ map (λ row. row ∷ []) (cond b (row ∷ filter (λ row. p (row ∷ [])) rows) (filter (λ row. p (row ∷ [])) rows))
     by_test true more = ap (λ (zs : List (List ℕ)). (row ∷ []) ∷ zs) more
     by_test false more = more
 
@@ -72,17 +80,22 @@ filter_same p q h [] = refl
 filter_same p q h (row ∷ rows) = rw (h row, filter_same p q h rows) refl
 
 keeps_one : (world : World) → world.edges ≡ [] → (row : ℕ) → keeps world (row ∷ []) ≡ world.passes 0 row
-keeps_one world e row = ap (λ (edges : List Edge). (world.passes 0 row && true) && edges_hold world edges (row ∷ [])) e ∙ and_true (world.passes 0 row)
+keeps_one world e row =
+    ap (λ (edges : List Edge). (world.passes 0 row && true) && edges_hold world edges (row ∷ [])) e
+    ∙ and_true (world.passes 0 row)
   where
     and_true : (b : Bool) → ((b && true) && true) ≡ b
     and_true true = refl
     and_true false = refl
 
-kept_one : (world : World) → world.edges ≡ [] → world.places ≡ 1 → kept world ≡ map (λ row. row ∷ []) (filter (world.passes 0) (row_numbers (world.size 0)))
+kept_one : (world : World) → world.edges ≡ [] → world.places ≡ 1
+    → kept world ≡ map (λ row. row ∷ []) (filter (world.passes 0) (row_numbers (world.size 0)))
 kept_one world e w =
     ap (λ (count : ℕ). filter (keeps world) (combinations (sizes_from world 0 count))) w
     ∙ (singles (keeps world) (row_numbers (world.size 0))
     ∙ ap (map (λ row. row ∷ [])) (filter_same (λ row. keeps world (row ∷ [])) (world.passes 0) (keeps_one world e) (row_numbers (world.size 0))))
 
-pub one_place : (q : Statement) (tables : List (List (List Value))) (args : List Value) → IsSoundQuery q → length q.places ≡ 1 → kept_combinations q tables args ≡ map (λ row. row ∷ []) (filter (λ row. row_passes args q.preds 0 (row_at tables 0 row)) (row_numbers (length (rows_at tables 0))))
+pub one_place : (q : Statement) (tables : List (List (List Value))) (args : List Value) → IsSoundQuery q
+    → length q.places ≡ 1
+    → kept_combinations q tables args ≡ map (λ row. row ∷ []) (filter (λ row. row_passes args q.preds 0 (row_at tables 0 row)) (row_numbers (length (rows_at tables 0))))
 one_place q tables args s l = kept_one (world_of q tables args) (no_edges q.places l q.edges s.edges) l

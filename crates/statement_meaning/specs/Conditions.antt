@@ -45,4 +45,5 @@ joins edge left right = compares is_eq (slice_get left edge.left.column) (slice_
 -- whether a row meets each predicate on this place
 abbrev pub row_passes : List Value → List Pred → ℕ → List Value → Bool
 row_passes args [] place row = true
-row_passes args (pred ∷ preds) place row = (if pred.at.place == place then holds args pred row else true) && row_passes args preds place row
+row_passes args (pred ∷ preds) place row =
+    (if pred.at.place == place then holds args pred row else true) && row_passes args preds place row

@@ -40,7 +40,9 @@ falling at = record { at = at; descending = true }
 
 -- one table t with a column v, and a predicate on it
 abbrev on_v : Test → Statement
-on_v test = statement_of (a_place (codes "t") ∷ []) (record { at = column 0 0; test = test } ∷ []) [] (Column (column 0 0) ∷ []) [] []
+on_v test =
+    statement_of (a_place (codes "t") ∷ []) (record { at = column 0 0; test = test } ∷ []) [] (Column (column 0 0) ∷ [])
+    [] []
 
 abbrev least : Value
 least = Int (negsuc 9223372036854775807)
@@ -95,7 +97,10 @@ duplicate_keys =
     ∷ []
 
 abbrev join : List OrderKey → Statement
-join order = statement_of (a_place (codes "l") ∷ a_place (codes "r") ∷ []) [] (record { left = column 0 0; right = column 1 0 } ∷ []) (Column (column 0 0) ∷ Column (column 1 1) ∷ []) [] order
+join order =
+    statement_of (a_place (codes "l") ∷ a_place (codes "r") ∷ []) []
+    (record { left = column 0 0; right = column 1 0 } ∷ []) (Column (column 0 0) ∷ Column (column 1 1) ∷ []) []
+    order
 
 joined_rows : lines (meaning_of (join []) duplicate_keys []) ≡ codes "row 1,10" ∷ codes "row 1,20" ∷ codes "row 1,10" ∷ codes "row 1,20" ∷ []
 unfolding digits
@@ -146,7 +151,8 @@ abbrev sale : List ℕ → ℕ → ℕ → List Value
 sale town year units = Text town ∷ int year ∷ int units ∷ []
 
 abbrev sales : List (List (List Value))
-sales = (sale (codes "Ulm") 7 3 ∷ sale (codes "Bonn") 7 4 ∷ sale (codes "Ulm") 8 5 ∷ sale (codes "Bonn") 7 6 ∷ sale (codes "Aue") 9 5 ∷ []) ∷ []
+sales =
+    (sale (codes "Ulm") 7 3 ∷ sale (codes "Bonn") 7 4 ∷ sale (codes "Ulm") 8 5 ∷ sale (codes "Bonn") 7 6 ∷ sale (codes "Aue") 9 5 ∷ []) ∷ []
 
 abbrev of_sales : List Item → List ColRef → List OrderKey → Statement
 of_sales items groups order = statement_of (a_place (codes "sales") ∷ []) [] [] items groups order

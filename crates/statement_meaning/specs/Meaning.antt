@@ -81,15 +81,18 @@ shown_row tables items members c = map (shown_item tables c members) items
 
 -- one row per combination, ordered stably by the keys
 abbrev pub plain_rows : List (List (List Value)) → List Item → List OrderKey → List (List ℕ) → List (List Shown)
-plain_rows tables items order combos = map (λ c. shown_row tables items (c ∷ []) c) (in_order (is_before tables order) combos)
+plain_rows tables items order combos =
+    map (λ c. shown_row tables items (c ∷ []) c) (in_order (is_before tables order) combos)
 
 -- one row per distinct list of GROUP BY values, ordered by the keys and then by that list
-abbrev pub group_rows : List (List (List Value)) → List Item → List ColRef → List OrderKey → List (List ℕ) → List (List Shown)
+abbrev pub group_rows : List (List (List Value)) → List Item → List ColRef → List OrderKey → List (List ℕ)
+    → List (List Shown)
 group_rows tables items groups order combos =
     map (λ c. shown_row tables items (filter (is_same_group tables groups c) combos) c)
     (in_order (is_before tables (order ++ group_keys groups)) (heads (is_same_group tables groups) combos))
 
-abbrev pub rows_shown : List (List (List Value)) → List Item → List ColRef → List OrderKey → List (List ℕ) → List (List Shown)
+abbrev pub rows_shown : List (List (List Value)) → List Item → List ColRef → List OrderKey → List (List ℕ)
+    → List (List Shown)
 rows_shown tables items [] order combos = plain_rows tables items order combos
 rows_shown tables items (group ∷ groups) order combos = group_rows tables items (group ∷ groups) order combos
 

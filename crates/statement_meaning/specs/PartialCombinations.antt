@@ -33,7 +33,8 @@ abbrev pub is_inside : (ℕ → Bool) → Edge → Bool
 is_inside places edge = places edge.left.place && places edge.right.place
 
 abbrev pub is_between : (ℕ → Bool) → (ℕ → Bool) → Edge → Bool
-is_between outer inner edge = (outer edge.left.place && inner edge.right.place) || (outer edge.right.place && inner edge.left.place)
+is_between outer inner edge =
+    (outer edge.left.place && inner edge.right.place) || (outer edge.right.place && inner edge.left.place)
 
 -- the column of an edge that is of a place of the set, where just one is
 abbrev pub end_in : (ℕ → Bool) → Edge → ColRef
@@ -49,7 +50,8 @@ edges_between world outer inner = filter (is_between outer inner) world.edges
 -- stands at the other places.
 pub record Fits (world : World) (places : ℕ → Bool) (c : List ℕ) : Type 0 where
   pub long : length c ≡ world.places
-  pub within : (place : ℕ) → places place ≡ true → (slice_index_or c place 0 < world.size place) × (world.passes place (slice_index_or c place 0) ≡ true)
+  pub within : (place : ℕ) → places place ≡ true
+      → (slice_index_or c place 0 < world.size place) × (world.passes place (slice_index_or c place 0) ≡ true)
   pub zeros : (place : ℕ) → places place ≡ false → slice_index_or c place 0 ≡ 0
   pub met : edges_hold world (edges_inside world places) c ≡ true
 
@@ -66,7 +68,8 @@ pub record Once (world : World) (places : ℕ → Bool) (cs : List (List ℕ)) :
 abbrev pub merged_from : (ℕ → Bool) → ℕ → List ℕ → List ℕ → List ℕ
 merged_from outer place [] ds = []
 merged_from outer place (row ∷ rows) [] = []
-merged_from outer place (row ∷ rows) (other ∷ others) = (if outer place then row else other) ∷ merged_from outer (suc place) rows others
+merged_from outer place (row ∷ rows) (other ∷ others) =
+    (if outer place then row else other) ∷ merged_from outer (suc place) rows others
 
 abbrev pub merged : (ℕ → Bool) → List ℕ → List ℕ → List ℕ
 merged outer c d = merged_from outer 0 c d
@@ -81,7 +84,8 @@ joined world outer inner offered cs =
 -- that meets with it every edge between.
 pub record Offers (world : World) (outer : ℕ → Bool) (inner : ℕ → Bool) (c : List ℕ) (offered : List (List ℕ)) : Type 0 where
   pub only : All (Fits world inner) offered
-  pub once : (d : List ℕ) → Fits world inner d → edges_hold world (edges_between world outer inner) (merged outer c d) ≡ true → times is_same d offered ≡ 1
+  pub once : (d : List ℕ) → Fits world inner d
+      → edges_hold world (edges_between world outer inner) (merged outer c d) ≡ true → times is_same d offered ≡ 1
 
 -- The same where one place enters, and its rows are offered.
 
@@ -91,7 +95,8 @@ placed world place row = set (replicate world.places 0) place row
 
 abbrev pub joined_rows : World → (ℕ → Bool) → ℕ → (List ℕ → List ℕ) → List (List ℕ) → List (List ℕ)
 joined_rows world outer place offered cs =
-    flat_map (λ c. filter (edges_hold world (edges_between world outer (single place))) (map (set c place) (offered c))) cs
+    flat_map (λ c. filter (edges_hold world (edges_between world outer (single place))) (map (set c place) (offered c)))
+    cs
 
 -- the rows of a place that meet the predicates on it, each once
 pub record RowsOnce (world : World) (place : ℕ) (rows : List ℕ) : Type 0 where
@@ -102,4 +107,5 @@ pub record RowsOnce (world : World) (place : ℕ) (rows : List ℕ) : Type 0 whe
 -- the place enters.
 pub record OffersRows (world : World) (outer : ℕ → Bool) (place : ℕ) (c : List ℕ) (rows : List ℕ) : Type 0 where
   pub only : All (λ row. (row < world.size place) × (world.passes place row ≡ true)) rows
-  pub once : (row : ℕ) → row < world.size place → world.passes place row ≡ true → edges_hold world (edges_between world outer (single place)) (set c place row) ≡ true → times nat_eq row rows ≡ 1
+  pub once : (row : ℕ) → row < world.size place → world.passes place row ≡ true
+      → edges_hold world (edges_between world outer (single place)) (set c place row) ≡ true → times nat_eq row rows ≡ 1

@@ -10,7 +10,8 @@ use Rattle.std.specs.Prelude.{false}
 abbrev pub escaped : ℕ → List ℕ
 escaped byte =
     if byte == 34 || byte == 92 then 92 ∷ byte ∷ []
-    else (if nat_lt byte 32 || byte == 127 then 92 ∷ 120 ∷ digit_glyph false (byte / 16) ∷ digit_glyph false (byte % 16) ∷ []
+    else
+    (if nat_lt byte 32 || byte == 127 then 92 ∷ 120 ∷ digit_glyph false (byte / 16) ∷ digit_glyph false (byte % 16) ∷ []
     else byte ∷ [])
 
 -- a text between double quotes
