@@ -6,7 +6,7 @@ use Rattle.sql_parser.specs.Reading.{◌>>=◌}
 use Rattle.sql_parser.specs.Spelled.{first_at}
 use Rattle.sql_parser.specs.declared.tokens.Token.{Token}
 use Rattle.sql_parser.proofs.Signs.{front_some}
-use Rattle.sql_parser.proofs.Sound.{bind_some}
+use Rattle.sql_parser.proofs.Readers.{bind_some}
 use Rattle.sql_parser.proofs.Spelled.{first_sound}
 use Rattle.script_report.specs.Parts.{is_blank, skip_blanks, next_part, value_of, value_part}
 use Rattle.script_report.specs.Commands.{values_in, args_in}
@@ -16,8 +16,8 @@ use Rattle.script_report.specs.Commands.{values_in, args_in}
 first_shorter : (text : List ℕ) (found : Token × List ℕ) → first_at text ≡ Some found → length found.1 < length text
 first_shorter text found e =
     let first = first_sound text found e in
-    let m : length text ≡ length first.front + length found.1 = ap length first.whole ∙ length-append first.front found.1 in
-    let l = front_some found.0 first.front found.1 first.spelled in
+    let m : length text ≡ length first.prefix + length found.1 = ap length first.whole ∙ length-append first.prefix found.1 in
+    let l = front_some found.0 first.prefix found.1 first.spelled in
     omega arith
 
 skip_no_longer : (text : List ℕ) → length (skip_blanks text) ≤ length text

@@ -34,12 +34,12 @@ next_part (byte ∷ text) = if is_blank byte then Some (skip_blanks text) else N
 abbrev pub name_of : Token → Option (List ℕ)
 name_of (token.Name name) = Some name
 name_of (token.Literal value) = None
-name_of (token.Mark mark) = None
+name_of (token.Symbol symbol) = None
 
 abbrev pub value_of : Token → Option Value
 value_of (token.Name name) = None
 value_of (token.Literal value) = Some value
-value_of (token.Mark mark) = None
+value_of (token.Symbol symbol) = None
 
 -- a name, plain or quoted, and the parts behind it
 unfoldable pub name_part : List ℕ → Option (List ℕ × List ℕ)

@@ -12,30 +12,13 @@ use Rattle.std.specs.Str.Parse.{IsNumeral, signed_digits_value, without_leading_
 use Rattle.row_values.specs.declared.values.Value.TheVariants.{Int, Text}
 use Rattle.sql_parser.specs.Statement.{is_name, is_i64}
 use Rattle.sql_parser.specs.Tokens.{is_letter, is_name_byte, is_spelled, doubled, quoted, without_minus, Spells, quoted_name, whole_number, quoted_text, begins_with, is_quote, is_digit_or_minus, IsFirst}
-use Rattle.sql_parser.specs.declared.tokens.Mark.{Mark}
+use Rattle.sql_parser.specs.declared.tokens.Symbol.{Symbol}
 use Rattle.sql_parser.specs.declared.tokens.Token.{Token}
 use Rattle.sql_parser.specs.declared.tokens.Token.TheVariants as token
-use Rattle.sql_parser.proofs.Plain.{is_word, is_any_of}
+use Rattle.sql_parser.proofs.Plain.{is_word}
 use Rattle.sql_parser.proofs.Quotes.{quoted_once}
 use Rattle.sql_parser.proofs.Runs.{and_true, run_passes, run_stops, run_longest, run_is}
 use Rattle.sql_parser.proofs.Shapes.{nothing_spells, word_shape, number_shape, name_shape, text_shape, letter_goes_on, NumberToken, NameToken, TextToken}
-
--- looking through marks
-pub find_some : (p : Mark → Bool) (ms : List Mark) (m : Mark) → find p ms ≡ Some m → p m ≡ true
-find_some p [] m e = cc
-find_some p (x ∷ ms) m e =
-    let step : (v : Bool) → p x ≡ v → cond v (Some x) (find p ms) ≡ Some m → p m ≡ true =
-    λ v. elim v as (λ v. p x ≡ v → cond v (Some x) (find p ms) ≡ Some m → p m ≡ true)
-    [ true ↦ λ t f. (let same : x ≡ m = cc in rw (← same) t) | false ↦ λ t f. find_some p ms m f ]
-    in step (p x) refl e
-
-pub find_none : (bytes : List ℕ) (ms : List Mark) → find (λ m. is_spelled bytes m) ms ≡ None → is_any_of ms bytes ≡ false
-find_none bytes [] e = refl
-find_none bytes (x ∷ ms) e =
-    let step : (v : Bool) → is_spelled bytes x ≡ v → cond v (Some x) (find (λ m. is_spelled bytes m) ms) ≡ None → (v || is_any_of ms bytes) ≡ false =
-    λ v. elim v as (λ v. is_spelled bytes x ≡ v → cond v (Some x) (find (λ m. is_spelled bytes m) ms) ≡ None → (v || is_any_of ms bytes) ≡ false)
-    [ true ↦ λ t f. cc | false ↦ λ t f. find_none bytes ms f ]
-    in step (is_spelled bytes x) refl e
 
 -- words
 pub word_front : (b : ℕ) (bs : List ℕ) → is_letter b ≡ true → take (prefix_len is_name_byte (b ∷ bs)) (b ∷ bs) ≡ b ∷ take (prefix_len is_name_byte bs) bs
@@ -57,7 +40,7 @@ pub word_first : (t : Token) (b : ℕ) (bs : List ℕ) → is_letter b ≡ true
     → Spells t (take (prefix_len is_name_byte (b ∷ bs)) (b ∷ bs)) (drop (prefix_len is_name_byte (b ∷ bs)) (b ∷ bs))
     → IsFirst t (b ∷ bs) (drop (prefix_len is_name_byte (b ∷ bs)) (b ∷ bs))
 word_first t b bs l s = record {
-  front = take (prefix_len is_name_byte (b ∷ bs)) (b ∷ bs);
+  prefix = take (prefix_len is_name_byte (b ∷ bs)) (b ∷ bs);
   whole = sym (take-append-drop (prefix_len is_name_byte (b ∷ bs)) (b ∷ bs));
   spelled = s;
   longest = λ other bytes more e sp. let n = word_longest b bs l other bytes more e sp in rw (length-prefix_len is_name_byte (b ∷ bs)) n;
@@ -89,7 +72,7 @@ number_extent b bs d other (x ∷ xs) more e s =
     let dx : is_digit_or_minus x ≡ true = rw (← same) d in
     let shape = number_shape other x xs more dx s in
     let run : prefix_len is_ascii_digit bs ≡ length xs = rw tail (run_is is_ascii_digit xs more shape.0 shape.1.stops) in
-    let front : take (prefix_len is_ascii_digit bs) bs ≡ xs = rw (run, tail) (take-append_seam xs more) in
+    let prefix : take (prefix_len is_ascii_digit bs) bs ≡ xs = rw (run, tail) (take-append_seam xs more) in
     let rest : drop (prefix_len is_ascii_digit bs) bs ≡ more = rw (run, tail) (drop-append_seam xs more) in
     let P : List ℕ → Type 0 = λ w. NumberToken other w more in
     let whole : x ∷ xs ≡ b ∷ take (prefix_len is_ascii_digit bs) bs = cc in
@@ -101,11 +84,11 @@ pub number_first : (b : ℕ) (bs : List ℕ) (z : ℤ) → is_digit_or_minus b �
     → z ≡ signed_digits_value 10 (b ∷ take (prefix_len is_ascii_digit bs) bs)
     → IsFirst (token.Literal (Int z)) (b ∷ bs) (drop (prefix_len is_ascii_digit bs) bs)
 number_first b bs z d n f e =
-    let front : List ℕ = b ∷ take (prefix_len is_ascii_digit bs) bs in
+    let prefix : List ℕ = b ∷ take (prefix_len is_ascii_digit bs) bs in
     let P : ℤ → Type 0 = λ y. Spells (token.Literal (Int y)) (b ∷ take (prefix_len is_ascii_digit bs) bs) (drop (prefix_len is_ascii_digit bs) bs) in
     let numeral : IsNumeral 10 (without_minus (b ∷ take (prefix_len is_ascii_digit bs) bs)) = rw (same_sign_off b (take (prefix_len is_ascii_digit bs) bs) d) at n in
     record {
-      front = b ∷ take (prefix_len is_ascii_digit bs) bs;
+      prefix = b ∷ take (prefix_len is_ascii_digit bs) bs;
       whole = ap (λ w. b ∷ w) (sym (take-append-drop (prefix_len is_ascii_digit bs) bs));
       spelled = subst P (sym e) (whole_number numeral (fits_tested _ f) (run_stops is_ascii_digit bs));
       longest = λ other bytes more w sp. let g = (number_extent b bs d other bytes more w sp).0 in omega (arith, ap length g);
@@ -115,7 +98,7 @@ pub number_none : (b : ℕ) (bs : List ℕ) → is_digit_or_minus b ≡ true
     → (IsNumeral 10 (without_leading_sign (b ∷ take (prefix_len is_ascii_digit bs) bs)) × FitsSigned w64 (signed_digits_value 10 (b ∷ take (prefix_len is_ascii_digit bs) bs)) → ⊥)
     → (other : Token) (rest : List ℕ) → IsFirst other (b ∷ bs) rest → ⊥
 number_none b bs d not_one other rest first =
-    let found = (number_extent b bs d other first.front rest first.whole first.spelled).2 in
+    let found = (number_extent b bs d other first.prefix rest first.whole first.spelled).2 in
     not_one (rw (same_sign_off b (take (prefix_len is_ascii_digit bs) bs) d) (found.numeral), tested_fits _ found.fits)
 
 -- quotes: what stands between two
@@ -185,7 +168,7 @@ quoted_whole q text inside content more t e = t ∙ ap (λ w. q ∷ w) e ∙ ap 
 pub name_first : (text inside name more : List ℕ) → text ≡ 34 ∷ inside → inside ≡ doubled 34 name ++ 34 ∷ more → begins_with (is_quote 34) more ≡ false → is_name name ≡ true
     → IsFirst (token.Name name) text more
 name_first text inside name more t e s n = record {
-  front = quoted 34 name;
+  prefix = quoted 34 name;
   whole = quoted_whole 34 text inside name more t e;
   spelled = quoted_name n s;
   longest = λ other bytes rest w sp.
@@ -197,7 +180,7 @@ name_first text inside name more t e s n = record {
 pub text_first : (text inside content more : List ℕ) → text ≡ 39 ∷ inside → inside ≡ doubled 39 content ++ 39 ∷ more → begins_with (is_quote 39) more ≡ false
     → IsFirst (token.Literal (Text content)) text more
 text_first text inside content more t e s = record {
-  front = quoted 39 content;
+  prefix = quoted 39 content;
   whole = quoted_whole 39 text inside content more t e;
   spelled = quoted_text s;
   longest = λ other bytes rest w sp.
@@ -211,12 +194,12 @@ pub name_open : (text inside : List ℕ) → text ≡ 34 ∷ inside
     → ((bytes rest : List ℕ) → inside ≡ doubled 34 bytes ++ 34 ∷ rest → begins_with (is_quote 34) rest ≡ false → ⊥)
     → (other : Token) (rest : List ℕ) → IsFirst other text rest → ⊥
 name_open text inside t open_ other rest first =
-    let found = name_at inside other first.front rest (sym t ∙ first.whole) first.spelled in open_ found.name rest found.content found.stops
+    let found = name_at inside other first.prefix rest (sym t ∙ first.whole) first.spelled in open_ found.name rest found.content found.stops
 
 pub name_empty : (text inside name more : List ℕ) → text ≡ 34 ∷ inside → inside ≡ doubled 34 name ++ 34 ∷ more → begins_with (is_quote 34) more ≡ false → length name ≡ 0
     → (other : Token) (rest : List ℕ) → IsFirst other text rest → ⊥
 name_empty text inside [] more t e s z other rest first =
-    let found = name_at inside other first.front rest (sym t ∙ first.whole) first.spelled in
+    let found = name_at inside other first.prefix rest (sym t ∙ first.whole) first.spelled in
     let same : found.name ≡ [] = (quoted_once 34 found.name [] rest more (sym found.content ∙ e) found.stops s).0 in
     let P : List ℕ → Type 0 = λ w. is_name w ≡ true in
     let f : is_name [] ≡ true = subst P same found.some in cc
@@ -226,4 +209,4 @@ pub text_open : (text inside : List ℕ) → text ≡ 39 ∷ inside
     → ((bytes rest : List ℕ) → inside ≡ doubled 39 bytes ++ 39 ∷ rest → begins_with (is_quote 39) rest ≡ false → ⊥)
     → (other : Token) (rest : List ℕ) → IsFirst other text rest → ⊥
 text_open text inside t open_ other rest first =
-    let found = text_at inside other first.front rest (sym t ∙ first.whole) first.spelled in open_ found.text rest found.content found.stops
+    let found = text_at inside other first.prefix rest (sym t ∙ first.whole) first.spelled in open_ found.text rest found.content found.stops

@@ -8,19 +8,19 @@ use Rattle.sql_parser.specs.declared.statement.RawCond.{RawCond}
 use Rattle.sql_parser.specs.Reading.{Fails}
 use Rattle.sql_parser.specs.declared.faults.ParseFault.{ParseFault}
 use Rattle.sql_parser.specs.declared.faults.ParseFault.TheVariants as fault
-use Rattle.sql_parser.specs.declared.tokens.Mark.{Mark}
+use Rattle.sql_parser.specs.declared.tokens.Symbol.{Symbol}
 use Rattle.sql_parser.specs.declared.tokens.Token.{Token}
 
 -- the parts so far before what is read further
 abbrev pub put_front : {T : Type 0} → List T → Option (List T × List Token) → Option (List T × List Token)
 put_front xs o = o >>= λ ys. Some (xs ++ ys.0, ys.1)
 
-pub record InList {T : Type 0} (separator : Mark) (at : List Token → Option (T × List Token)) (old : List Token) (xs : List T) (tokens : List Token) : Type 0 where
+pub record InList {T : Type 0} (separator : Symbol) (at : List Token → Option (T × List Token)) (old : List Token) (xs : List T) (tokens : List Token) : Type 0 where
   pub fuel : ℕ
   pub enough : length tokens < fuel
   pub same : list_at separator at old ≡ put_front xs (all_at (begins separator) (λ rest. at (drop 1 rest)) fuel tokens)
 
-pub list_start : {T : Type 0} (separator : Mark) (at : List Token → Option (T × List Token)) (old : List Token) (x : T) (rest : List Token)
+pub list_start : {T : Type 0} (separator : Symbol) (at : List Token → Option (T × List Token)) (old : List Token) (x : T) (rest : List Token)
     → at old ≡ Some (x, rest) → InList separator at old (x ∷ []) rest
 unfolding list_at more_at
 list_start separator at old x rest e = record {
@@ -48,7 +48,7 @@ fail_at : {T : Type 0} (starts : List Token → Bool) (at : List Token → Optio
     → starts tokens ≡ true → at tokens ≡ None → all_at starts at (suc n) tokens ≡ None
 fail_at starts at n tokens b e = rw (b, e) refl
 
-list_step_by : {T : Type 0} (separator : Mark) (at : List Token → Option (T × List Token)) (old : List Token) (xs : List T) (tokens : List Token) (x : T) (rest : List Token) (fuel : ℕ)
+list_step_by : {T : Type 0} (separator : Symbol) (at : List Token → Option (T × List Token)) (old : List Token) (xs : List T) (tokens : List Token) (x : T) (rest : List Token) (fuel : ℕ)
     → length tokens < fuel → list_at separator at old ≡ put_front xs (all_at (begins separator) (λ rest. at (drop 1 rest)) fuel tokens)
     → begins separator tokens ≡ true → at (drop 1 tokens) ≡ Some (x, rest) → length rest < length tokens → InList separator at old (xs ++ x ∷ []) rest
 list_step_by separator at old xs tokens x rest zero n s b e l = absurd (omega arith)
@@ -59,38 +59,38 @@ list_step_by separator at old xs tokens x rest (suc fuel) n s b e l = record {
       ∙ list_regroup (all_at (begins separator) (λ rest. at (drop 1 rest)) fuel rest) xs x;
 }
 
-list_stop_by : {T : Type 0} (separator : Mark) (at : List Token → Option (T × List Token)) (old : List Token) (xs : List T) (tokens : List Token) (fuel : ℕ)
+list_stop_by : {T : Type 0} (separator : Symbol) (at : List Token → Option (T × List Token)) (old : List Token) (xs : List T) (tokens : List Token) (fuel : ℕ)
     → length tokens < fuel → list_at separator at old ≡ put_front xs (all_at (begins separator) (λ rest. at (drop 1 rest)) fuel tokens)
     → begins separator tokens ≡ false → list_at separator at old ≡ Some (xs, tokens)
 list_stop_by separator at old xs tokens zero n s b = absurd (omega arith)
 list_stop_by {T} separator at old xs tokens (suc fuel) n s b =
     s ∙ ap (put_front xs) (stop_at (begins separator) (λ rest. at (drop 1 rest)) fuel tokens b) ∙ (let f : List T → Option (List T × List Token) = λ z. Some (z, tokens) in ap f (append-nil xs))
 
-list_fail_by : {T : Type 0} (separator : Mark) (at : List Token → Option (T × List Token)) (old : List Token) (xs : List T) (tokens : List Token) (fuel : ℕ)
+list_fail_by : {T : Type 0} (separator : Symbol) (at : List Token → Option (T × List Token)) (old : List Token) (xs : List T) (tokens : List Token) (fuel : ℕ)
     → length tokens < fuel → list_at separator at old ≡ put_front xs (all_at (begins separator) (λ rest. at (drop 1 rest)) fuel tokens)
     → begins separator tokens ≡ true → at (drop 1 tokens) ≡ None → list_at separator at old ≡ None
 list_fail_by separator at old xs tokens zero n s b e = absurd (omega arith)
 list_fail_by separator at old xs tokens (suc fuel) n s b e =
     s ∙ ap (put_front xs) (fail_at (begins separator) (λ rest. at (drop 1 rest)) fuel tokens b e)
 
-pub list_step : {T : Type 0} (separator : Mark) (at : List Token → Option (T × List Token)) (old : List Token) (xs : List T) (tokens : List Token) (x : T) (rest : List Token)
+pub list_step : {T : Type 0} (separator : Symbol) (at : List Token → Option (T × List Token)) (old : List Token) (xs : List T) (tokens : List Token) (x : T) (rest : List Token)
     → InList separator at old xs tokens → begins separator tokens ≡ true → at (drop 1 tokens) ≡ Some (x, rest) → length rest < length tokens
     → InList separator at old (xs ++ x ∷ []) rest
 list_step {T} separator at old xs tokens x rest within b e l = list_step_by separator at old xs tokens x rest within.fuel within.enough within.same b e l
 
-pub list_stop : {T : Type 0} (separator : Mark) (at : List Token → Option (T × List Token)) (old : List Token) (xs : List T) (tokens : List Token)
+pub list_stop : {T : Type 0} (separator : Symbol) (at : List Token → Option (T × List Token)) (old : List Token) (xs : List T) (tokens : List Token)
     → InList separator at old xs tokens → begins separator tokens ≡ false → list_at separator at old ≡ Some (xs, tokens)
 list_stop separator at old xs tokens within b = list_stop_by separator at old xs tokens within.fuel within.enough within.same b
 
-pub list_fail : {T : Type 0} (separator : Mark) (at : List Token → Option (T × List Token)) (old : List Token) (xs : List T) (tokens : List Token)
+pub list_fail : {T : Type 0} (separator : Symbol) (at : List Token → Option (T × List Token)) (old : List Token) (xs : List T) (tokens : List Token)
     → InList separator at old xs tokens → begins separator tokens ≡ true → at (drop 1 tokens) ≡ None → list_at separator at old ≡ None
 list_fail separator at old xs tokens within b e = list_fail_by separator at old xs tokens within.fuel within.enough within.same b e
 
-pub list_first_fail : {T : Type 0} (separator : Mark) (at : List Token → Option (T × List Token)) (old : List Token) → at old ≡ None → list_at separator at old ≡ None
+pub list_first_fail : {T : Type 0} (separator : Symbol) (at : List Token → Option (T × List Token)) (old : List Token) → at old ≡ None → list_at separator at old ≡ None
 unfolding list_at
 list_first_fail separator at old e = rw e refl
 
-pub err_first : {T : Type 0} (separator : Mark) (at : List Token → Option (T × List Token)) (old : List Token) (e : ParseFault) → Fails e (at old) → Fails e (list_at separator at old)
+pub err_first : {T : Type 0} (separator : Symbol) (at : List Token → Option (T × List Token)) (old : List Token) (e : ParseFault) → Fails e (at old) → Fails e (list_at separator at old)
 err_first separator at old fault.Syntax h = list_first_fail separator at old h
 err_first separator at old fault.Memory h = tt
 

@@ -6,22 +6,17 @@ use Rattle.row_values.specs.Plain.{are_name_bytes, is_plain}
 use Rattle.row_values.specs.Plain.{is_reserved as reserved_word}
 use Rattle.sql_parser.specs.Statement.{each}
 use Rattle.sql_parser.specs.Tokens.{is_letter, is_name_byte, is_spelled}
-use Rattle.sql_parser.specs.declared.tokens.Mark.{Mark}
 use Rattle.sql_parser.specs.declared.tokens.TheConstants.{RESERVED}
 use Rattle.sql_parser.proofs.Runs.{both, and_true}
+use Rattle.sql_parser.proofs.Symbols.{any}
 
 -- a letter, then letters and digits
 abbrev pub is_word : List ℕ → Bool
 is_word [] = false
 is_word (byte ∷ bytes) = is_letter byte && each is_name_byte bytes
 
--- whether the bytes are one of the marks
-abbrev pub is_any_of : List Mark → List ℕ → Bool
-is_any_of [] bytes = false
-is_any_of (m ∷ marks) bytes = is_spelled bytes m || is_any_of marks bytes
-
 abbrev pub is_reserved : List ℕ → Bool
-is_reserved bytes = is_any_of RESERVED bytes
+is_reserved bytes = any (λ m. is_spelled bytes m) RESERVED
 
 name_byte : (b : ℕ) → (is_ascii_alphanumeric b || (b == 95)) ≡ true → is_name_byte b ≡ true
 name_byte b h = grind (arith, nat_tests)

@@ -46,20 +46,20 @@ run_stops p (b ∷ bs) =
     in step (p b) refl
 
 -- no run is longer
-pub run_longest : (p : ℕ → Bool) (front more : List ℕ) → each p front ≡ true → length front ≤ prefix_len p (front ++ more)
+pub run_longest : (p : ℕ → Bool) (prefix more : List ℕ) → each p prefix ≡ true → length prefix ≤ prefix_len p (prefix ++ more)
 run_longest p [] more h = omega arith
-run_longest p (b ∷ front) more h =
-    let parts = both (p b) (each p front) h in
-    let ih = run_longest p front more parts.1 in
+run_longest p (b ∷ prefix) more h =
+    let parts = both (p b) (each p prefix) h in
+    let ih = run_longest p prefix more parts.1 in
     rw (parts.0) (omega arith)
 
 -- a run that goes before what doesn't begin so is the run
-pub run_is : (p : ℕ → Bool) (front rest : List ℕ) → each p front ≡ true → begins_with p rest ≡ false → prefix_len p (front ++ rest) ≡ length front
+pub run_is : (p : ℕ → Bool) (prefix rest : List ℕ) → each p prefix ≡ true → begins_with p rest ≡ false → prefix_len p (prefix ++ rest) ≡ length prefix
 run_is p [] [] h s = refl
 run_is p [] (b ∷ rest) h s = rw s refl
-run_is p (b ∷ front) rest h s =
-    let parts = both (p b) (each p front) h in
-    rw (parts.0, run_is p front rest parts.1 s) (one-add (length front))
+run_is p (b ∷ prefix) rest h s =
+    let parts = both (p b) (each p prefix) h in
+    rw (parts.0, run_is p prefix rest parts.1 s) (one-add (length prefix))
 
 pub each_append : (p : ℕ → Bool) (a b : List ℕ) → each p a ≡ true → each p b ≡ true → each p (a ++ b) ≡ true
 each_append p [] b h k = k

@@ -8,9 +8,9 @@ use Rattle.std.specs.List.{prefix_len, starts_with}
 use Rattle.std.specs.Str.Parse.{IsNumeral, signed_digits_value, without_leading_sign}
 use Rattle.row_values.specs.declared.values.Value.TheVariants.{Int, Text}
 use Rattle.sql_parser.specs.Statement.{each, is_name}
-use Rattle.sql_parser.specs.Tokens.{is_letter, is_name_byte, mark_text, is_spelled, doubled, plain_name, reserved_or_sign, begins_with, is_quote, is_digit_or_minus, is_other, IsFirst}
-use Rattle.sql_parser.specs.declared.tokens.Mark.{Mark}
-use Rattle.sql_parser.specs.declared.tokens.Mark.TheVariants as mark
+use Rattle.sql_parser.specs.Tokens.{is_letter, is_name_byte, symbol_text, is_spelled, doubled, plain_name, reserved_or_sign, begins_with, is_quote, is_digit_or_minus, is_other, IsFirst}
+use Rattle.sql_parser.specs.declared.tokens.Symbol.{Symbol}
+use Rattle.sql_parser.specs.declared.tokens.Symbol.TheVariants as symbol
 use Rattle.sql_parser.specs.declared.tokens.Token.{Token}
 use Rattle.sql_parser.specs.declared.tokens.Token.TheVariants as token
 use Rattle.sql_parser.specs.declared.tokens.TheConstants.{RESERVED, SIGNS}
@@ -27,8 +27,9 @@ use Rattle.sql_parser.specs.Tokens.{Unquotes}
 use Rattle.sql_parser.proofs.Quotes.{doubled_plain, doubled_append, doubled_quote}
 use Rattle.sql_parser.proofs.Runs.{cut_at, cut_behind}
 use Rattle.sql_parser.proofs.Shapes.{name_byte_ascii}
-use Rattle.sql_parser.proofs.First.{find_some, find_none, word_is, word_first, number_first, number_none, name_first, name_empty, text_first}
+use Rattle.sql_parser.proofs.First.{word_is, word_first, number_first, number_none, name_first, name_empty, text_first}
 use Rattle.sql_parser.proofs.Signs.{sign_first, sign_none, sign_whole, first_some}
+use Rattle.sql_parser.proofs.Symbols.{every, find_passes, none_passes}
 
 digit_ascii : (b : ℕ) → is_ascii_digit b ≡ true → b < 128
 digit_ascii b h = grind (arith, nat_tests)
@@ -54,12 +55,12 @@ pub number_cut : (text : List ℕ) → begins_with is_digit_or_minus text ≡ tr
 number_cut [] d u = cc
 number_cut (b ∷ bs) d u = cut_at (b ∷ bs) (1 + prefix_len is_ascii_digit bs) u (let n = prefix_len-le-length is_ascii_digit bs in omega arith) (number_byte b bs d)
 
-pub number_found : (text front : List ℕ) (z : ℤ) → begins_with is_digit_or_minus text ≡ true → front ≡ take (1 + prefix_len is_ascii_digit (drop 1 text)) text
-    → (IsNumeral 10 (without_leading_sign front) × FitsSigned w64 (signed_digits_value 10 front)) × (z ≡ signed_digits_value 10 front)
+pub number_found : (text prefix : List ℕ) (z : ℤ) → begins_with is_digit_or_minus text ≡ true → prefix ≡ take (1 + prefix_len is_ascii_digit (drop 1 text)) text
+    → (IsNumeral 10 (without_leading_sign prefix) × FitsSigned w64 (signed_digits_value 10 prefix)) × (z ≡ signed_digits_value 10 prefix)
     → IsFirst (token.Literal (Int z)) text (drop (1 + prefix_len is_ascii_digit (drop 1 text)) text)
-number_found [] front z d e f = cc
-number_found (b ∷ bs) front z d e f =
-    let g : front ≡ b ∷ take (prefix_len is_ascii_digit bs) bs = e ∙ rw (one-add (prefix_len is_ascii_digit bs)) refl in
+number_found [] prefix z d e f = cc
+number_found (b ∷ bs) prefix z d e f =
+    let g : prefix ≡ b ∷ take (prefix_len is_ascii_digit bs) bs = e ∙ rw (one-add (prefix_len is_ascii_digit bs)) refl in
     let P : List ℕ → Type 0 = λ w. IsNumeral 10 (without_leading_sign w) in
     let Q : List ℕ → Type 0 = λ w. FitsSigned w64 (signed_digits_value 10 w) in
     let R : List ℕ → Type 0 = λ w. z ≡ signed_digits_value 10 w in
@@ -67,12 +68,12 @@ number_found (b ∷ bs) front z d e f =
     let S : ℕ → Type 0 = λ n. IsFirst (token.Literal (Int z)) (b ∷ bs) (drop n (b ∷ bs)) in
     subst S (sym (one-add (prefix_len is_ascii_digit bs))) first
 
-pub number_lost : (text front : List ℕ) → begins_with is_digit_or_minus text ≡ true → front ≡ take (1 + prefix_len is_ascii_digit (drop 1 text)) text
-    → (IsNumeral 10 (without_leading_sign front) × FitsSigned w64 (signed_digits_value 10 front) → ⊥)
+pub number_lost : (text prefix : List ℕ) → begins_with is_digit_or_minus text ≡ true → prefix ≡ take (1 + prefix_len is_ascii_digit (drop 1 text)) text
+    → (IsNumeral 10 (without_leading_sign prefix) × FitsSigned w64 (signed_digits_value 10 prefix) → ⊥)
     → (other : Token) (rest : List ℕ) → IsFirst other text rest → ⊥
-number_lost [] front d e f other rest first = cc
-number_lost (b ∷ bs) front d e f other rest first =
-    let g : front ≡ b ∷ take (prefix_len is_ascii_digit bs) bs = e ∙ rw (one-add (prefix_len is_ascii_digit bs)) refl in
+number_lost [] prefix d e f other rest first = cc
+number_lost (b ∷ bs) prefix d e f other rest first =
+    let g : prefix ≡ b ∷ take (prefix_len is_ascii_digit bs) bs = e ∙ rw (one-add (prefix_len is_ascii_digit bs)) refl in
     let P : List ℕ → Type 0 = λ w. IsNumeral 10 (without_leading_sign w) × FitsSigned w64 (signed_digits_value 10 w) → ⊥ in
     number_none b bs d (subst P g f) other rest first
 
@@ -86,14 +87,14 @@ name_word [] word l e f = cc
 name_word (b ∷ bs) word l e f =
     let P : List ℕ → Type 0 = λ w. IsFirst (token.Name w) (b ∷ bs) (drop (prefix_len is_name_byte (b ∷ bs)) (b ∷ bs)) in
     let Q : List ℕ → Type 0 = λ w. is_reserved w ≡ false in
-    subst P (sym e) (word_first _ b bs l (plain_name (word_plain (take (prefix_len is_name_byte (b ∷ bs)) (b ∷ bs)) (word_is b bs l) (subst Q e (find_none word RESERVED f)))))
+    subst P (sym e) (word_first _ b bs l (plain_name (word_plain (take (prefix_len is_name_byte (b ∷ bs)) (b ∷ bs)) (word_is b bs l) (subst Q e (none_passes (λ m. is_spelled word m) RESERVED f)))))
 
-pub mark_word : (text word : List ℕ) (m : Mark) → begins_with is_letter text ≡ true → word ≡ take (prefix_len is_name_byte text) text
-    → find (λ m. is_spelled word m) RESERVED ≡ Some m → IsFirst (token.Mark m) text (drop (prefix_len is_name_byte text) text)
-mark_word [] word m l e f = cc
-mark_word (b ∷ bs) word m l e f =
+pub symbol_word : (text word : List ℕ) (m : Symbol) → begins_with is_letter text ≡ true → word ≡ take (prefix_len is_name_byte text) text
+    → find (λ m. is_spelled word m) RESERVED ≡ Some m → IsFirst (token.Symbol m) text (drop (prefix_len is_name_byte text) text)
+symbol_word [] word m l e f = cc
+symbol_word (b ∷ bs) word m l e f =
     let Q : List ℕ → Type 0 = λ w. is_spelled w m ≡ true in
-    word_first _ b bs l (reserved_or_sign (subst Q e (find_some (λ m. is_spelled word m) RESERVED m f)))
+    word_first _ b bs l (reserved_or_sign (subst Q e (find_passes (λ m. is_spelled word m) RESERVED m f)))
 
 -- signs
 ltb_small : (b : ℕ) → nat_lt b 128 ≡ true → b < 128
@@ -109,60 +110,30 @@ byte_ascii [] h k l = absurd (omega arith)
 byte_ascii (b ∷ w) h zero l = ltb_small b (both (nat_lt b 128) _ h).0
 byte_ascii (b ∷ w) h (suc k) l = byte_ascii w (both (nat_lt b 128) _ h).1 k (omega arith)
 
-sign_ascii : (m : Mark) (k : ℕ) → suc k ≡ length (mark_text m) → get_or (mark_text m) k 0 < 128
-sign_ascii mark.Select k e = byte_ascii (mark_text mark.Select) refl k (omega arith)
-sign_ascii mark.From k e = byte_ascii (mark_text mark.From) refl k (omega arith)
-sign_ascii mark.Where k e = byte_ascii (mark_text mark.Where) refl k (omega arith)
-sign_ascii mark.And k e = byte_ascii (mark_text mark.And) refl k (omega arith)
-sign_ascii mark.Group k e = byte_ascii (mark_text mark.Group) refl k (omega arith)
-sign_ascii mark.By k e = byte_ascii (mark_text mark.By) refl k (omega arith)
-sign_ascii mark.Order k e = byte_ascii (mark_text mark.Order) refl k (omega arith)
-sign_ascii mark.Asc k e = byte_ascii (mark_text mark.Asc) refl k (omega arith)
-sign_ascii mark.Desc k e = byte_ascii (mark_text mark.Desc) refl k (omega arith)
-sign_ascii mark.Between k e = byte_ascii (mark_text mark.Between) refl k (omega arith)
-sign_ascii mark.Count k e = byte_ascii (mark_text mark.Count) refl k (omega arith)
-sign_ascii mark.Sum k e = byte_ascii (mark_text mark.Sum) refl k (omega arith)
-sign_ascii mark.Min k e = byte_ascii (mark_text mark.Min) refl k (omega arith)
-sign_ascii mark.Max k e = byte_ascii (mark_text mark.Max) refl k (omega arith)
-sign_ascii mark.As k e = byte_ascii (mark_text mark.As) refl k (omega arith)
-sign_ascii mark.Join k e = byte_ascii (mark_text mark.Join) refl k (omega arith)
-sign_ascii mark.Inner k e = byte_ascii (mark_text mark.Inner) refl k (omega arith)
-sign_ascii mark.On k e = byte_ascii (mark_text mark.On) refl k (omega arith)
-sign_ascii mark.In k e = byte_ascii (mark_text mark.In) refl k (omega arith)
-sign_ascii mark.Comma k e = byte_ascii (mark_text mark.Comma) refl k (omega arith)
-sign_ascii mark.Dot k e = byte_ascii (mark_text mark.Dot) refl k (omega arith)
-sign_ascii mark.Open k e = byte_ascii (mark_text mark.Open) refl k (omega arith)
-sign_ascii mark.Close k e = byte_ascii (mark_text mark.Close) refl k (omega arith)
-sign_ascii mark.Star k e = byte_ascii (mark_text mark.Star) refl k (omega arith)
-sign_ascii mark.Question k e = byte_ascii (mark_text mark.Question) refl k (omega arith)
-sign_ascii mark.Semicolon k e = byte_ascii (mark_text mark.Semicolon) refl k (omega arith)
-sign_ascii mark.Less k e = byte_ascii (mark_text mark.Less) refl k (omega arith)
-sign_ascii mark.AtMost k e = byte_ascii (mark_text mark.AtMost) refl k (omega arith)
-sign_ascii mark.Greater k e = byte_ascii (mark_text mark.Greater) refl k (omega arith)
-sign_ascii mark.AtLeast k e = byte_ascii (mark_text mark.AtLeast) refl k (omega arith)
-sign_ascii mark.Equals k e = byte_ascii (mark_text mark.Equals) refl k (omega arith)
+sign_ascii : (m : Symbol) (k : ℕ) → suc k ≡ length (symbol_text m) → get_or (symbol_text m) k 0 < 128
+sign_ascii m k e = byte_ascii (symbol_text m) (every (λ m. each (λ b. nat_lt b 128) (symbol_text m)) refl m) k (omega arith)
 
-sign_byte : (text : List ℕ) (m : Mark) (rest : List ℕ) (k : ℕ) → text ≡ mark_text m ++ rest → suc k ≡ length (mark_text m) → get_or text k 0 < 128
+sign_byte : (text : List ℕ) (m : Symbol) (rest : List ℕ) (k : ℕ) → text ≡ symbol_text m ++ rest → suc k ≡ length (symbol_text m) → get_or text k 0 < 128
 sign_byte text m rest k w e =
-    let same : get_or text k 0 ≡ get_or (mark_text m) k 0 = rw w (get_or-append_left (mark_text m) rest k (omega arith)) in
+    let same : get_or text k 0 ≡ get_or (symbol_text m) k 0 = rw w (get_or-append_left (symbol_text m) rest k (omega arith)) in
     let small = sign_ascii m k e in omega arith
 
-sign_cut : (text spelling : List ℕ) (m : Mark) (rest : List ℕ) → spelling ≡ mark_text m → text ≡ mark_text m ++ rest → IsUtf8 text → IsCharBoundary text (length spelling)
+sign_cut : (text spelling : List ℕ) (m : Symbol) (rest : List ℕ) → spelling ≡ symbol_text m → text ≡ symbol_text m ++ rest → IsUtf8 text → IsCharBoundary text (length spelling)
 sign_cut text spelling m rest f w u =
-    let n : length text ≡ length (mark_text m) + length rest = ap length w ∙ length-append (mark_text m) rest in
+    let n : length text ≡ length (symbol_text m) + length rest = ap length w ∙ length-append (symbol_text m) rest in
     let P : List ℕ → Type 0 = λ z. IsCharBoundary text (length z) in
-    subst P (sym f) (cut_at text (length (mark_text m)) u (omega arith) (λ k e. sign_byte text m rest k w e))
+    subst P (sym f) (cut_at text (length (symbol_text m)) u (omega arith) (λ k e. sign_byte text m rest k w e))
 
-pub sign_found : (text spelling : List ℕ) (m : Mark) → begins_with is_other text ≡ false → find (λ n. starts_with nat_eq text (mark_text n)) SIGNS ≡ Some m
-    → spelling ≡ mark_text m → IsUtf8 text
-    → IsFirst (token.Mark m) text (drop (length spelling) text) × IsCharBoundary text (length spelling)
+pub sign_found : (text spelling : List ℕ) (m : Symbol) → begins_with is_other text ≡ false → find (λ n. starts_with nat_eq text (symbol_text n)) SIGNS ≡ Some m
+    → spelling ≡ symbol_text m → IsUtf8 text
+    → IsFirst (token.Symbol m) text (drop (length spelling) text) × IsCharBoundary text (length spelling)
 sign_found [] spelling m o e f u = cc
 sign_found (b ∷ bs) spelling m o e f u =
-    let P : List ℕ → Type 0 = λ w. IsFirst (token.Mark m) (b ∷ bs) (drop (length w) (b ∷ bs)) in
+    let P : List ℕ → Type 0 = λ w. IsFirst (token.Symbol m) (b ∷ bs) (drop (length w) (b ∷ bs)) in
     let first = sign_first b bs m o e in
-    (subst P (sym f) first, sign_cut (b ∷ bs) spelling m (drop (length (mark_text m)) (b ∷ bs)) f (sign_whole b bs m e) u)
+    (subst P (sym f) first, sign_cut (b ∷ bs) spelling m (drop (length (symbol_text m)) (b ∷ bs)) f (sign_whole b bs m e) u)
 
-pub sign_lost : (text : List ℕ) → begins_with is_other text ≡ false → find (λ n. starts_with nat_eq text (mark_text n)) SIGNS ≡ None
+pub sign_lost : (text : List ℕ) → begins_with is_other text ≡ false → find (λ n. starts_with nat_eq text (symbol_text n)) SIGNS ≡ None
     → (other : Token) (rest : List ℕ) → IsFirst other text rest → ⊥
 sign_lost [] o e other rest first = first_some other rest first
 sign_lost (b ∷ bs) o e other rest first = sign_none b bs o e other rest first

@@ -1,7 +1,7 @@
 -- Which bytes spell a token, by the first of them.
-use Rattle.std.proofs.Common.{◌≡◌, ℕ, zero, suc, ◌<◌, Bool, true, false, cond, ◌&&◌, ◌||◌, not, nat_lt, ◌==◌, Option, Some, None, List, [], ◌∷◌, ◌++◌, refl, arith, ◌⊎◌, inl, inr}
+use Rattle.std.proofs.Common.{◌≡◌, ℕ, ◌<◌, Bool, true, false, cond, ◌&&◌, ◌||◌, not, nat_lt, ◌==◌, List, [], ◌∷◌, ◌++◌, refl, ◌∙◌, arith, ◌⊎◌, inl, inr}
 use Rattle.std.proofs.lemmas.Bool.Decides.{nat_tests}
-use Rattle.std.proofs.lemmas.Bool.{eqb-true}
+use Rattle.std.proofs.lemmas.Bool.{eqb-true, not-true, or_left, or_right}
 use Rattle.std.proofs.lemmas.Str.Parse.{digit_from_value}
 use Rattle.std.specs.Char.{is_ascii_digit, to_ascii_lowercase}
 use Rattle.std.specs.Int.{IsInRange}
@@ -9,14 +9,15 @@ use Rattle.std.specs.Str.{bytes_eq, str_to_ascii_lowercase}
 use Rattle.std.specs.Str.Parse.{AllDigits, IsNumeral, signed_digits_value}
 use Rattle.row_values.specs.declared.values.Value.TheVariants.{Int, Text}
 use Rattle.sql_parser.specs.Statement.{each, is_name, is_i64}
-use Rattle.sql_parser.specs.Tokens.{is_white, is_letter, is_name_byte, mark_text, is_spelled, doubled, without_minus, Spells, plain_name, quoted_name, whole_number, quoted_text, reserved_or_sign, begins_with, is_quote, is_digit_or_minus, is_other}
-use Rattle.sql_parser.specs.declared.tokens.Mark.{Mark}
-use Rattle.sql_parser.specs.declared.tokens.Mark.TheVariants as mark
+use Rattle.sql_parser.specs.Tokens.{is_white, is_letter, is_name_byte, symbol_text, is_spelled, doubled, without_minus, Spells, plain_name, quoted_name, whole_number, quoted_text, reserved_or_sign, begins_with, is_quote, is_digit_or_minus, is_other}
+use Rattle.sql_parser.specs.declared.tokens.Symbol.{Symbol}
+use Rattle.sql_parser.specs.Reading.{symbol_eq}
 use Rattle.sql_parser.specs.declared.tokens.Token.{Token}
 use Rattle.sql_parser.specs.declared.tokens.Token.TheVariants as token
 use Rattle.sql_parser.specs.declared.tokens.TheConstants.{RESERVED}
-use Rattle.sql_parser.proofs.Plain.{is_any_of, is_reserved, plain_word}
+use Rattle.sql_parser.proofs.Plain.{is_reserved, plain_word}
 use Rattle.sql_parser.proofs.Runs.{both, and_true, each_weaker}
+use Rattle.sql_parser.proofs.Symbols.{every, is_in, any_in}
 
 -- a capital letter, and a byte of a sign
 abbrev is_capital : ℕ → Bool
@@ -62,103 +63,32 @@ same_signs (b ∷ bs) (w ∷ ws) e h =
     let q = same_signs bs ws es.1 hs.1 in
     cc
 
--- a mark is a reserved word in capitals, or a sign
-abbrev IsWordMark : Mark → Type 0
-IsWordMark m = (each is_capital (mark_text m) ≡ true) × ((bytes : List ℕ) → is_spelled bytes m ≡ true → is_reserved bytes ≡ true)
+-- a symbol is a reserved word in capitals, or a sign
+abbrev IsWordSymbol : Symbol → Type 0
+IsWordSymbol m = (each is_capital (symbol_text m) ≡ true) × ((bytes : List ℕ) → is_spelled bytes m ≡ true → is_reserved bytes ≡ true)
 
-or_left : (a b : Bool) → a ≡ true → (a || b) ≡ true
-or_left true b e = refl
-or_left false b e = cc
+symbol_kind : (m : Symbol) → IsWordSymbol m ⊎ (each is_sign_byte (symbol_text m) ≡ true)
+unfolding symbol_eq
+symbol_kind m = kind (is_in m RESERVED && each is_capital (symbol_text m)) (each is_sign_byte (symbol_text m)) refl refl
+    (every (λ m. (is_in m RESERVED && each is_capital (symbol_text m)) || each is_sign_byte (symbol_text m)) refl m)
+  where
+    kind : (v w : Bool) → (is_in m RESERVED && each is_capital (symbol_text m)) ≡ v → each is_sign_byte (symbol_text m) ≡ w → (v || w) ≡ true
+        → IsWordSymbol m ⊎ (each is_sign_byte (symbol_text m) ≡ true)
+    kind true w e f h =
+        let es = both (is_in m RESERVED) (each is_capital (symbol_text m)) e in
+        inl (es.1, λ bytes t. any_in (λ x. is_spelled bytes x) m RESERVED es.0 t)
+    kind false w e f h = inr (f ∙ h)
 
-or_right : (a b : Bool) → b ≡ true → (a || b) ≡ true
-or_right true b e = refl
-or_right false b e = e
+-- no symbol is spelled by nothing
+symbol_text_some : (m : Symbol) → is_spelled [] m ≡ true → ⊥
+symbol_text_some m h = let e = not-true (is_spelled [] m) (every (λ m. not (is_spelled [] m)) refl m) in cc
 
-mark_nth : List Mark → ℕ → Option Mark
-mark_nth [] k = None
-mark_nth (m ∷ ms) zero = Some m
-mark_nth (m ∷ ms) (suc k) = mark_nth ms k
-
-any_at : (k : ℕ) (ms : List Mark) (m : Mark) (bytes : List ℕ) → mark_nth ms k ≡ Some m → is_spelled bytes m ≡ true → is_any_of ms bytes ≡ true
-unfolding mark_nth
-any_at k [] m bytes e h = cc
-any_at zero (x ∷ ms) m bytes e h = let same : x ≡ m = cc in or_left (is_spelled bytes x) (is_any_of ms bytes) (rw same h)
-any_at (suc k) (x ∷ ms) m bytes e h = or_right (is_spelled bytes x) _ (any_at k ms m bytes e h)
-
-mark_kind : (m : Mark) → IsWordMark m ⊎ (each is_sign_byte (mark_text m) ≡ true)
-unfolding mark_nth
-mark_kind mark.Select = inl (refl, λ bytes h. any_at 0 RESERVED mark.Select bytes refl h)
-mark_kind mark.From = inl (refl, λ bytes h. any_at 1 RESERVED mark.From bytes refl h)
-mark_kind mark.Where = inl (refl, λ bytes h. any_at 2 RESERVED mark.Where bytes refl h)
-mark_kind mark.And = inl (refl, λ bytes h. any_at 3 RESERVED mark.And bytes refl h)
-mark_kind mark.Group = inl (refl, λ bytes h. any_at 4 RESERVED mark.Group bytes refl h)
-mark_kind mark.By = inl (refl, λ bytes h. any_at 5 RESERVED mark.By bytes refl h)
-mark_kind mark.Order = inl (refl, λ bytes h. any_at 6 RESERVED mark.Order bytes refl h)
-mark_kind mark.Asc = inl (refl, λ bytes h. any_at 7 RESERVED mark.Asc bytes refl h)
-mark_kind mark.Desc = inl (refl, λ bytes h. any_at 8 RESERVED mark.Desc bytes refl h)
-mark_kind mark.Between = inl (refl, λ bytes h. any_at 9 RESERVED mark.Between bytes refl h)
-mark_kind mark.Count = inl (refl, λ bytes h. any_at 10 RESERVED mark.Count bytes refl h)
-mark_kind mark.Sum = inl (refl, λ bytes h. any_at 11 RESERVED mark.Sum bytes refl h)
-mark_kind mark.Min = inl (refl, λ bytes h. any_at 12 RESERVED mark.Min bytes refl h)
-mark_kind mark.Max = inl (refl, λ bytes h. any_at 13 RESERVED mark.Max bytes refl h)
-mark_kind mark.As = inl (refl, λ bytes h. any_at 14 RESERVED mark.As bytes refl h)
-mark_kind mark.Join = inl (refl, λ bytes h. any_at 15 RESERVED mark.Join bytes refl h)
-mark_kind mark.Inner = inl (refl, λ bytes h. any_at 16 RESERVED mark.Inner bytes refl h)
-mark_kind mark.On = inl (refl, λ bytes h. any_at 17 RESERVED mark.On bytes refl h)
-mark_kind mark.In = inl (refl, λ bytes h. any_at 18 RESERVED mark.In bytes refl h)
-mark_kind mark.Comma = inr refl
-mark_kind mark.Dot = inr refl
-mark_kind mark.Open = inr refl
-mark_kind mark.Close = inr refl
-mark_kind mark.Star = inr refl
-mark_kind mark.Question = inr refl
-mark_kind mark.Semicolon = inr refl
-mark_kind mark.Less = inr refl
-mark_kind mark.AtMost = inr refl
-mark_kind mark.Greater = inr refl
-mark_kind mark.AtLeast = inr refl
-mark_kind mark.Equals = inr refl
-
--- no mark is spelled by nothing
-mark_text_some : (m : Mark) → is_spelled [] m ≡ true → ⊥
-mark_text_some mark.Select h = cc
-mark_text_some mark.From h = cc
-mark_text_some mark.Where h = cc
-mark_text_some mark.And h = cc
-mark_text_some mark.Group h = cc
-mark_text_some mark.By h = cc
-mark_text_some mark.Order h = cc
-mark_text_some mark.Asc h = cc
-mark_text_some mark.Desc h = cc
-mark_text_some mark.Between h = cc
-mark_text_some mark.Count h = cc
-mark_text_some mark.Sum h = cc
-mark_text_some mark.Min h = cc
-mark_text_some mark.Max h = cc
-mark_text_some mark.As h = cc
-mark_text_some mark.Join h = cc
-mark_text_some mark.Inner h = cc
-mark_text_some mark.On h = cc
-mark_text_some mark.In h = cc
-mark_text_some mark.Comma h = cc
-mark_text_some mark.Dot h = cc
-mark_text_some mark.Open h = cc
-mark_text_some mark.Close h = cc
-mark_text_some mark.Star h = cc
-mark_text_some mark.Question h = cc
-mark_text_some mark.Semicolon h = cc
-mark_text_some mark.Less h = cc
-mark_text_some mark.AtMost h = cc
-mark_text_some mark.Greater h = cc
-mark_text_some mark.AtLeast h = cc
-mark_text_some mark.Equals h = cc
-
--- what spells a mark is a reserved word, or the sign itself
-pub mark_shape : (m : Mark) (bytes : List ℕ) → is_spelled bytes m ≡ true
-    → ((each is_letter bytes ≡ true) × (is_reserved bytes ≡ true)) ⊎ ((each is_sign_byte bytes ≡ true) × (bytes ≡ mark_text m))
-mark_shape m bytes h = elim (mark_kind m) [
-  | inl w ↦ inl (letters_like_capitals bytes (mark_text m) h w.0, w.1 bytes h)
-  | inr k ↦ inr (let e = same_signs bytes (mark_text m) h k in (rw e k, e))
+-- what spells a symbol is a reserved word, or the sign itself
+pub symbol_shape : (m : Symbol) (bytes : List ℕ) → is_spelled bytes m ≡ true
+    → ((each is_letter bytes ≡ true) × (is_reserved bytes ≡ true)) ⊎ ((each is_sign_byte bytes ≡ true) × (bytes ≡ symbol_text m))
+symbol_shape m bytes h = elim (symbol_kind m) [
+  | inl w ↦ inl (letters_like_capitals bytes (symbol_text m) h w.0, w.1 bytes h)
+  | inr k ↦ inr (let e = same_signs bytes (symbol_text m) h k in (rw e k, e))
 ]
 
 letter_is_other : (b : ℕ) → is_letter b ≡ true → is_sign_byte b ≡ true → ⊥
@@ -173,7 +103,7 @@ letter_goes_on b h = or_left _ _ h
 -- what a word spells: a name, or a reserved word
 pub data WordToken : Token → List ℕ → Type 0 where
   named : {bytes : List ℕ} → is_reserved bytes ≡ false → WordToken (token.Name bytes) bytes
-  kept : {m : Mark} {bytes : List ℕ} → is_spelled bytes m ≡ true → is_reserved bytes ≡ true → WordToken (token.Mark m) bytes
+  kept : {m : Symbol} {bytes : List ℕ} → is_spelled bytes m ≡ true → is_reserved bytes ≡ true → WordToken (token.Symbol m) bytes
 
 pub all_digits : (bs : List ℕ) → AllDigits 10 bs → each is_ascii_digit bs ≡ true
 all_digits [] h = refl
@@ -192,7 +122,7 @@ number_digits b bs h =
 pub nothing_spells : (t : Token) (rest : List ℕ) → Spells t [] rest → ⊥
 nothing_spells t rest (plain_name p) = cc
 nothing_spells t rest (whole_number n f s) = absurd (omega (arith, n.0))
-nothing_spells t rest (reserved_or_sign {m} h) = mark_text_some m h
+nothing_spells t rest (reserved_or_sign {m} h) = symbol_text_some m h
 
 pub word_shape : (t : Token) (b : ℕ) (bs rest : List ℕ) → is_letter b ≡ true → Spells t (b ∷ bs) rest → (each is_name_byte (b ∷ bs) ≡ true) × WordToken t (b ∷ bs)
 word_shape t b bs rest l (plain_name p) =
@@ -202,7 +132,7 @@ word_shape t b bs rest l (plain_name p) =
 word_shape t b bs rest l (quoted_name n s) = cc
 word_shape t b bs rest l (whole_number n f s) = absurd (letter_no_digit b l (number_digits b bs n).0)
 word_shape t b bs rest l (quoted_text s) = cc
-word_shape t b bs rest l (reserved_or_sign {m} h) = elim (mark_shape m (b ∷ bs) h) [
+word_shape t b bs rest l (reserved_or_sign {m} h) = elim (symbol_shape m (b ∷ bs) h) [
   | inl w ↦ (each_weaker is_letter is_name_byte letter_goes_on (b ∷ bs) w.0, kept h w.1)
   | inr s ↦ absurd (letter_is_other b l (both (is_sign_byte b) (each is_sign_byte bs) s.0).0)
 ]
@@ -219,7 +149,7 @@ number_shape t b bs rest d (plain_name p) = absurd (letter_no_digit b (both (is_
 number_shape t b bs rest d (quoted_name n s) = cc
 number_shape t b bs rest d (whole_number n f s) = ((number_digits b bs n).1, record { value = refl; numeral = n; fits = f; stops = s })
 number_shape t b bs rest d (quoted_text s) = cc
-number_shape t b bs rest d (reserved_or_sign {m} h) = elim (mark_shape m (b ∷ bs) h) [
+number_shape t b bs rest d (reserved_or_sign {m} h) = elim (symbol_shape m (b ∷ bs) h) [
   | inl w ↦ absurd (letter_no_digit b (both (is_letter b) (each is_letter bs) w.0).0 d)
   | inr s ↦ absurd (digit_is_other b d (both (is_sign_byte b) (each is_sign_byte bs) s.0).0)
 ]
@@ -242,19 +172,19 @@ pub name_shape : (t : Token) (bs rest : List ℕ) → Spells t (34 ∷ bs) rest 
 name_shape t bs rest (plain_name p) = cc
 name_shape t bs rest (quoted_name {bytes} n s) = record { name = bytes; token = refl; some = n; content = refl; stops = s }
 name_shape t bs rest (whole_number n f s) = let d = (number_digits 34 bs n).0 in cc
-name_shape t bs rest (reserved_or_sign {m} h) = elim (mark_shape m (34 ∷ bs) h) [ inl w ↦ (let e = w.0 in cc) | inr s ↦ (let e = s.0 in cc) ]
+name_shape t bs rest (reserved_or_sign {m} h) = elim (symbol_shape m (34 ∷ bs) h) [ inl w ↦ (let e = w.0 in cc) | inr s ↦ (let e = s.0 in cc) ]
 
 pub text_shape : (t : Token) (bs rest : List ℕ) → Spells t (39 ∷ bs) rest → TextToken t bs rest
 text_shape t bs rest (plain_name p) = cc
 text_shape t bs rest (whole_number n f s) = let d = (number_digits 39 bs n).0 in cc
 text_shape t bs rest (quoted_text {bytes} s) = record { text = bytes; token = refl; content = refl; stops = s }
-text_shape t bs rest (reserved_or_sign {m} h) = elim (mark_shape m (39 ∷ bs) h) [ inl w ↦ (let e = w.0 in cc) | inr s ↦ (let e = s.0 in cc) ]
+text_shape t bs rest (reserved_or_sign {m} h) = elim (symbol_shape m (39 ∷ bs) h) [ inl w ↦ (let e = w.0 in cc) | inr s ↦ (let e = s.0 in cc) ]
 
 -- what begins otherwise is a sign
 pub record SignToken (t : Token) (bytes : List ℕ) : Type 0 where
-  pub sign : Mark
-  pub token : t ≡ token.Mark sign
-  pub text : bytes ≡ mark_text sign
+  pub sign : Symbol
+  pub token : t ≡ token.Symbol sign
+  pub text : bytes ≡ symbol_text sign
 
 other_letter : (b : ℕ) → is_other b ≡ false → is_letter b ≡ true → ⊥
 other_letter b h l = grind (arith, nat_tests)
@@ -267,7 +197,7 @@ sign_shape t b bs rest o (plain_name p) = absurd (other_letter b o (both (is_let
 sign_shape t b bs rest o (quoted_name n s) = cc
 sign_shape t b bs rest o (whole_number n f s) = absurd (other_digit b o (number_digits b bs n).0)
 sign_shape t b bs rest o (quoted_text s) = cc
-sign_shape t b bs rest o (reserved_or_sign {m} h) = elim (mark_shape m (b ∷ bs) h) [
+sign_shape t b bs rest o (reserved_or_sign {m} h) = elim (symbol_shape m (b ∷ bs) h) [
   | inl w ↦ absurd (other_letter b o (both (is_letter b) (each is_letter bs) w.0).0)
   | inr s ↦ record { sign = m; token = refl; text = s.1 }
 ]

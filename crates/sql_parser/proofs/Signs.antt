@@ -1,27 +1,28 @@
 -- Signs, and that one text has one first token and one list of tokens.
-use Rattle.std.proofs.Common.{◌≡◌, ℕ, zero, suc, ◌+◌, ◌<◌, ◌≤◌, ◌≢◌, Bool, true, false, cond, ◌||◌, nat_lt, nat_eq, ◌==◌, Option, Some, None, List, [], ◌∷◌, ◌++◌, length, take, drop, find, refl, sym, ◌∙◌, ap, subst, arith, ◌⊎◌, inl, inr}
+use Rattle.std.proofs.Common.{◌≡◌, ℕ, zero, suc, ◌+◌, ◌<◌, ◌≤◌, ◌≢◌, Bool, true, false, cond, ◌||◌, nat_lt, nat_le, nat_eq, ◌==◌, Option, Some, None, List, [], ◌∷◌, ◌++◌, length, take, drop, find, refl, sym, ◌∙◌, ap, subst, arith, ◌⊎◌, inl, inr}
 use Rattle.std.proofs.lemmas.Bool.Decides.{nat_tests}
 use Rattle.std.proofs.lemmas.List.{take-append-drop, append_assoc}
 use Rattle.std.proofs.lemmas.Slice.Eq.{bytes_eq-Decides}
 use Rattle.std.proofs.Common.{eq-eqb}
 use Rattle.std.specs.Str.{bytes_eq, str_to_ascii_lowercase}
-use Rattle.sql_parser.proofs.First.{find_some}
+use Rattle.sql_parser.specs.Reading.{symbol_eq}
 use Rattle.sql_parser.specs.Tokens.{AreTokens, none, next}
 use Rattle.std.proofs.lemmas.List.{append-nil, length-append}
 use Rattle.std.proofs.Common.{length-drop, ◌-◌}
 use Rattle.sql_parser.proofs.Runs.{each_append}
-use Rattle.std.proofs.lemmas.Bool.{eqb-true}
+use Rattle.std.proofs.lemmas.Bool.{eqb-true, leb-true}
 use Rattle.std.proofs.Math.Seq.{take-append_seam, drop-append_seam}
 use Rattle.std.specs.List.{prefix_len, starts_with}
 use Rattle.row_values.specs.declared.values.Value.TheVariants.{Text}
 use Rattle.sql_parser.specs.Statement.{each}
-use Rattle.sql_parser.specs.Tokens.{is_white, is_letter, mark_text, is_spelled, doubled, Spells, reserved_or_sign, begins_with, is_digit_or_minus, is_other, IsFirst}
-use Rattle.sql_parser.specs.declared.tokens.Mark.{Mark}
-use Rattle.sql_parser.specs.declared.tokens.Mark.TheVariants as mark
+use Rattle.sql_parser.specs.Tokens.{is_white, is_letter, symbol_text, is_spelled, doubled, Spells, reserved_or_sign, begins_with, is_digit_or_minus, is_other, IsFirst}
+use Rattle.sql_parser.specs.declared.tokens.Symbol.{Symbol}
+use Rattle.sql_parser.specs.declared.tokens.Symbol.TheVariants as symbol
 use Rattle.sql_parser.specs.declared.tokens.Token.{Token}
 use Rattle.sql_parser.specs.declared.tokens.Token.TheVariants as token
 use Rattle.sql_parser.specs.declared.tokens.TheConstants.{RESERVED, SIGNS}
 use Rattle.sql_parser.proofs.Quotes.{quoted_once}
+use Rattle.sql_parser.proofs.Symbols.{every, symbol_same, is_in, any_in, find_passes, none_passes}
 use Rattle.sql_parser.proofs.Runs.{both, and_true, run_passes, run_stops, run_is}
 use Rattle.sql_parser.proofs.Shapes.{nothing_spells, word_shape, number_shape, name_shape, text_shape, sign_shape, NameToken, TextToken, SignToken, WordToken, named, kept}
 
@@ -32,142 +33,46 @@ bytes_eq_same : (a : List ℕ) → bytes_eq a a ≡ true
 bytes_eq_same [] = refl
 bytes_eq_same (x ∷ a) = and_true (x == x) _ (eq-eqb x x refl) (bytes_eq_same a)
 
-pub spells_itself : (m : Mark) → is_spelled (mark_text m) m ≡ true
-spells_itself m = bytes_eq_same (str_to_ascii_lowercase (mark_text m))
+pub spells_itself : (m : Symbol) → is_spelled (symbol_text m) m ≡ true
+spells_itself m = bytes_eq_same (str_to_ascii_lowercase (symbol_text m))
 
--- a text that begins with a mark's
+-- a text that begins with a symbol's
 starts_whole : (text w : List ℕ) → starts_with nat_eq text w ≡ true → text ≡ w ++ drop (length w) text
 starts_whole text w h = sym (ap (λ z. z ++ drop (length w) text) (bytes_eq_true w (take (length w) text) h) ∙ take-append-drop (length w) text)
 
 starts_itself : (w rest : List ℕ) → starts_with nat_eq (w ++ rest) w ≡ true
 starts_itself w rest = rw (take-append_seam w rest) (bytes_eq_same w)
 
-mark_nth : List Mark → ℕ → Option Mark
-mark_nth [] k = None
-mark_nth (m ∷ ms) zero = Some m
-mark_nth (m ∷ ms) (suc k) = mark_nth ms k
+-- a sign is among the signs
+sign_place : (m : Symbol) → begins_with is_other (symbol_text m) ≡ false → is_in m SIGNS ≡ true
+unfolding symbol_eq
+sign_place m h = rw h at (every (λ m. begins_with is_other (symbol_text m) || is_in m SIGNS) refl m)
 
-none_later : (p : Mark → Bool) (x : Mark) (ms : List Mark) (k : ℕ) (m : Mark) → mark_nth (x ∷ ms) k ≡ Some m → find p ms ≡ None → p x ≡ false → p m ≡ false
-unfolding mark_nth
-none_later p x ms zero m e g t = let same : x ≡ m = cc in rw (← same) t
-none_later p x [] (suc k) m e g t = cc
-none_later p x (y ∷ ms) (suc k) m e g t =
-    let step : (v : Bool) → p y ≡ v → cond v (Some y) (find p ms) ≡ None → p m ≡ false =
-    λ v. elim v as (λ v. p y ≡ v → cond v (Some y) (find p ms) ≡ None → p m ≡ false)
-    [ true ↦ λ t g. cc | false ↦ λ t g. none_later p y ms k m e g t ]
-    in step (p y) refl g
-
-none_at : (p : Mark → Bool) (ms : List Mark) (k : ℕ) (m : Mark) → mark_nth ms k ≡ Some m → find p ms ≡ None → p m ≡ false
-unfolding mark_nth
-none_at p [] k m e f = cc
-none_at p (x ∷ ms) k m e f =
-    let step : (v : Bool) → p x ≡ v → cond v (Some x) (find p ms) ≡ None → p m ≡ false =
-    λ v. elim v as (λ v. p x ≡ v → cond v (Some x) (find p ms) ≡ None → p m ≡ false)
-    [ true ↦ λ t g. cc | false ↦ λ t g. none_later p x ms k m e g t ]
-    in step (p x) refl f
-
--- a sign's place among the signs
-sign_place : (m : Mark) → begins_with is_other (mark_text m) ≡ false → (k : ℕ) × (mark_nth SIGNS k ≡ Some m)
-unfolding mark_nth
-sign_place mark.Select h = cc
-sign_place mark.From h = cc
-sign_place mark.Where h = cc
-sign_place mark.And h = cc
-sign_place mark.Group h = cc
-sign_place mark.By h = cc
-sign_place mark.Order h = cc
-sign_place mark.Asc h = cc
-sign_place mark.Desc h = cc
-sign_place mark.Between h = cc
-sign_place mark.Count h = cc
-sign_place mark.Sum h = cc
-sign_place mark.Min h = cc
-sign_place mark.Max h = cc
-sign_place mark.As h = cc
-sign_place mark.Join h = cc
-sign_place mark.Inner h = cc
-sign_place mark.On h = cc
-sign_place mark.In h = cc
-sign_place mark.Comma h = (0, refl)
-sign_place mark.Dot h = (1, refl)
-sign_place mark.Open h = (2, refl)
-sign_place mark.Close h = (3, refl)
-sign_place mark.Star h = (4, refl)
-sign_place mark.Question h = (5, refl)
-sign_place mark.Semicolon h = (6, refl)
-sign_place mark.Less h = (8, refl)
-sign_place mark.AtMost h = (7, refl)
-sign_place mark.Greater h = (10, refl)
-sign_place mark.AtLeast h = (9, refl)
-sign_place mark.Equals h = (11, refl)
-
-some_text : (m : Mark) → 1 ≤ length (mark_text m)
-some_text mark.Select = omega arith
-some_text mark.From = omega arith
-some_text mark.Where = omega arith
-some_text mark.And = omega arith
-some_text mark.Group = omega arith
-some_text mark.By = omega arith
-some_text mark.Order = omega arith
-some_text mark.Asc = omega arith
-some_text mark.Desc = omega arith
-some_text mark.Between = omega arith
-some_text mark.Count = omega arith
-some_text mark.Sum = omega arith
-some_text mark.Min = omega arith
-some_text mark.Max = omega arith
-some_text mark.As = omega arith
-some_text mark.Join = omega arith
-some_text mark.Inner = omega arith
-some_text mark.On = omega arith
-some_text mark.In = omega arith
-some_text mark.Comma = omega arith
-some_text mark.Dot = omega arith
-some_text mark.Open = omega arith
-some_text mark.Close = omega arith
-some_text mark.Star = omega arith
-some_text mark.Question = omega arith
-some_text mark.Semicolon = omega arith
-some_text mark.Less = omega arith
-some_text mark.AtMost = omega arith
-some_text mark.Greater = omega arith
-some_text mark.AtLeast = omega arith
-some_text mark.Equals = omega arith
+some_text : (m : Symbol) → 1 ≤ length (symbol_text m)
+some_text m = leb-true 1 (length (symbol_text m)) (every (λ m. nat_le 1 (length (symbol_text m))) refl m)
 
 -- the sign that is found is the longest
-sign_greatest : (m : Mark) (rest : List ℕ) (found : Mark) → begins_with is_other (mark_text m) ≡ false
-    → find (λ n. starts_with nat_eq (mark_text m ++ rest) (mark_text n)) SIGNS ≡ Some found → length (mark_text m) ≤ length (mark_text found)
-sign_greatest mark.Select rest found o e = cc
-sign_greatest mark.From rest found o e = cc
-sign_greatest mark.Where rest found o e = cc
-sign_greatest mark.And rest found o e = cc
-sign_greatest mark.Group rest found o e = cc
-sign_greatest mark.By rest found o e = cc
-sign_greatest mark.Order rest found o e = cc
-sign_greatest mark.Asc rest found o e = cc
-sign_greatest mark.Desc rest found o e = cc
-sign_greatest mark.Between rest found o e = cc
-sign_greatest mark.Count rest found o e = cc
-sign_greatest mark.Sum rest found o e = cc
-sign_greatest mark.Min rest found o e = cc
-sign_greatest mark.Max rest found o e = cc
-sign_greatest mark.As rest found o e = cc
-sign_greatest mark.Join rest found o e = cc
-sign_greatest mark.Inner rest found o e = cc
-sign_greatest mark.On rest found o e = cc
-sign_greatest mark.In rest found o e = cc
-sign_greatest mark.Comma rest found o e = some_text found
-sign_greatest mark.Dot rest found o e = some_text found
-sign_greatest mark.Open rest found o e = some_text found
-sign_greatest mark.Close rest found o e = some_text found
-sign_greatest mark.Star rest found o e = some_text found
-sign_greatest mark.Question rest found o e = some_text found
-sign_greatest mark.Semicolon rest found o e = some_text found
-sign_greatest mark.Less rest found o e = some_text found
-sign_greatest mark.AtMost rest found o e = let same : mark.AtMost ≡ found = cc in rw (← same) (omega arith)
-sign_greatest mark.Greater rest found o e = some_text found
-sign_greatest mark.AtLeast rest found o e = let same : mark.AtLeast ≡ found = cc in rw (← same) (omega arith)
-sign_greatest mark.Equals rest found o e = some_text found
+abbrev IsGreatest : Symbol → List ℕ → Symbol → Type 0
+IsGreatest m rest found =
+    find (λ n. starts_with nat_eq (symbol_text m ++ rest) (symbol_text n)) SIGNS ≡ Some found → length (symbol_text m) ≤ length (symbol_text found)
+
+at_most_greatest : (rest : List ℕ) (found : Symbol) → IsGreatest symbol.AtMost rest found
+at_most_greatest rest found e = let same : symbol.AtMost ≡ found = cc in rw (← same) (omega arith)
+
+at_least_greatest : (rest : List ℕ) (found : Symbol) → IsGreatest symbol.AtLeast rest found
+at_least_greatest rest found e = let same : symbol.AtLeast ≡ found = cc in rw (← same) (omega arith)
+
+sign_greatest : (m : Symbol) (rest : List ℕ) (found : Symbol) → begins_with is_other (symbol_text m) ≡ false → IsGreatest m rest found
+unfolding symbol_eq
+sign_greatest m rest found o e =
+    kind (nat_le (length (symbol_text m)) 1) (symbol_eq m symbol.AtMost) refl refl
+    (rw o at (every (λ m. begins_with is_other (symbol_text m) || (nat_le (length (symbol_text m)) 1 || (symbol_eq m symbol.AtMost || symbol_eq m symbol.AtLeast))) refl m))
+  where
+    kind : (v w : Bool) → nat_le (length (symbol_text m)) 1 ≡ v → symbol_eq m symbol.AtMost ≡ w → (v || (w || symbol_eq m symbol.AtLeast)) ≡ true
+        → length (symbol_text m) ≤ length (symbol_text found)
+    kind true w f g h = (let l = leb-true (length (symbol_text m)) 1 f in let k = some_text found in omega arith)
+    kind false true f g h = (let P : Symbol → Type 0 = λ z. IsGreatest z rest found in subst P (sym (symbol_same m symbol.AtMost g)) (at_most_greatest rest found) e)
+    kind false false f g h = (let P : Symbol → Type 0 = λ z. IsGreatest z rest found in subst P (sym (symbol_same m symbol.AtLeast h)) (at_least_greatest rest found) e)
 
 sign_of : (b : ℕ) (bs : List ℕ) → is_other b ≡ false → (other : Token) (bytes more : List ℕ) → b ∷ bs ≡ bytes ++ more → Spells other bytes more → SignToken other bytes
 sign_of b bs o other [] more e s = absurd (nothing_spells other more s)
@@ -184,95 +89,75 @@ first_other b bs (x ∷ w) more o e =
     let P : ℕ → Type 0 = λ y. is_other y ≡ false in
     subst P same o
 
-sign_longest : (b : ℕ) (bs : List ℕ) (m : Mark) → is_other b ≡ false → find (λ n. starts_with nat_eq (b ∷ bs) (mark_text n)) SIGNS ≡ Some m
-    → {other : Token} (bytes more : List ℕ) → b ∷ bs ≡ bytes ++ more → SignToken other bytes → length bytes ≤ length (mark_text m)
+sign_longest : (b : ℕ) (bs : List ℕ) (m : Symbol) → is_other b ≡ false → find (λ n. starts_with nat_eq (b ∷ bs) (symbol_text n)) SIGNS ≡ Some m
+    → {other : Token} (bytes more : List ℕ) → b ∷ bs ≡ bytes ++ more → SignToken other bytes → length bytes ≤ length (symbol_text m)
 sign_longest b bs m o e bytes more w shape =
-    let whole : b ∷ bs ≡ mark_text shape.sign ++ more = w ∙ ap (λ z. z ++ more) shape.text in
-    let P : List ℕ → Type 0 = λ z. find (λ n. starts_with nat_eq z (mark_text n)) SIGNS ≡ Some m in
-    let n = sign_greatest shape.sign more m (first_other b bs (mark_text shape.sign) more o whole) (subst P whole e) in
+    let whole : b ∷ bs ≡ symbol_text shape.sign ++ more = w ∙ ap (λ z. z ++ more) shape.text in
+    let P : List ℕ → Type 0 = λ z. find (λ n. starts_with nat_eq z (symbol_text n)) SIGNS ≡ Some m in
+    let n = sign_greatest shape.sign more m (first_other b bs (symbol_text shape.sign) more o whole) (subst P whole e) in
     omega (arith, n, ap length shape.text)
 
-sign_absent : (b : ℕ) (bs : List ℕ) → is_other b ≡ false → find (λ n. starts_with nat_eq (b ∷ bs) (mark_text n)) SIGNS ≡ None
+sign_absent : (b : ℕ) (bs : List ℕ) → is_other b ≡ false → find (λ n. starts_with nat_eq (b ∷ bs) (symbol_text n)) SIGNS ≡ None
     → {other : Token} (bytes more : List ℕ) → b ∷ bs ≡ bytes ++ more → SignToken other bytes → ⊥
 sign_absent b bs o e bytes more w shape =
-    let whole : b ∷ bs ≡ mark_text shape.sign ++ more = w ∙ ap (λ z. z ++ more) shape.text in
-    let place = sign_place shape.sign (first_other b bs (mark_text shape.sign) more o whole) in
-    let n = none_at (λ n. starts_with nat_eq (b ∷ bs) (mark_text n)) SIGNS place.0 shape.sign place.1 e in
-    let P : List ℕ → Type 0 = λ z. starts_with nat_eq z (mark_text shape.sign) ≡ true in
-    let k = subst P (sym whole) (starts_itself (mark_text shape.sign) more) in
+    let whole : b ∷ bs ≡ symbol_text shape.sign ++ more = w ∙ ap (λ z. z ++ more) shape.text in
+    let place = sign_place shape.sign (first_other b bs (symbol_text shape.sign) more o whole) in
+    let n = none_passes (λ n. starts_with nat_eq (b ∷ bs) (symbol_text n)) SIGNS e in
+    let P : List ℕ → Type 0 = λ z. starts_with nat_eq z (symbol_text shape.sign) ≡ true in
+    let k = subst P (sym whole) (starts_itself (symbol_text shape.sign) more) in
+    let a = any_in (λ n. starts_with nat_eq (b ∷ bs) (symbol_text n)) shape.sign SIGNS place k in
     cc
 
-pub sign_first : (b : ℕ) (bs : List ℕ) (m : Mark) → is_other b ≡ false → find (λ n. starts_with nat_eq (b ∷ bs) (mark_text n)) SIGNS ≡ Some m
-    → IsFirst (token.Mark m) (b ∷ bs) (drop (length (mark_text m)) (b ∷ bs))
+pub sign_first : (b : ℕ) (bs : List ℕ) (m : Symbol) → is_other b ≡ false → find (λ n. starts_with nat_eq (b ∷ bs) (symbol_text n)) SIGNS ≡ Some m
+    → IsFirst (token.Symbol m) (b ∷ bs) (drop (length (symbol_text m)) (b ∷ bs))
 sign_first b bs m o e = record {
-  front = mark_text m;
-  whole = starts_whole (b ∷ bs) (mark_text m) (find_some (λ n. starts_with nat_eq (b ∷ bs) (mark_text n)) SIGNS m e);
+  prefix = symbol_text m;
+  whole = starts_whole (b ∷ bs) (symbol_text m) (find_passes (λ n. starts_with nat_eq (b ∷ bs) (symbol_text n)) SIGNS m e);
   spelled = reserved_or_sign (spells_itself m);
   longest = λ other bytes more w sp. sign_longest b bs m o e bytes more w (sign_of b bs o other bytes more w sp);
 }
 
-pub sign_whole : (b : ℕ) (bs : List ℕ) (m : Mark) → find (λ n. starts_with nat_eq (b ∷ bs) (mark_text n)) SIGNS ≡ Some m
-    → b ∷ bs ≡ mark_text m ++ drop (length (mark_text m)) (b ∷ bs)
-sign_whole b bs m e = starts_whole (b ∷ bs) (mark_text m) (find_some (λ n. starts_with nat_eq (b ∷ bs) (mark_text n)) SIGNS m e)
+pub sign_whole : (b : ℕ) (bs : List ℕ) (m : Symbol) → find (λ n. starts_with nat_eq (b ∷ bs) (symbol_text n)) SIGNS ≡ Some m
+    → b ∷ bs ≡ symbol_text m ++ drop (length (symbol_text m)) (b ∷ bs)
+sign_whole b bs m e = starts_whole (b ∷ bs) (symbol_text m) (find_passes (λ n. starts_with nat_eq (b ∷ bs) (symbol_text n)) SIGNS m e)
 
-pub sign_none : (b : ℕ) (bs : List ℕ) → is_other b ≡ false → find (λ n. starts_with nat_eq (b ∷ bs) (mark_text n)) SIGNS ≡ None
+pub sign_none : (b : ℕ) (bs : List ℕ) → is_other b ≡ false → find (λ n. starts_with nat_eq (b ∷ bs) (symbol_text n)) SIGNS ≡ None
     → (other : Token) (rest : List ℕ) → IsFirst other (b ∷ bs) rest → ⊥
 sign_none b bs o e other rest first =
-    sign_absent b bs o e first.front rest first.whole (sign_of b bs o other first.front rest first.whole first.spelled)
+    sign_absent b bs o e first.prefix rest first.whole (sign_of b bs o other first.prefix rest first.whole first.spelled)
 
--- marks differ in their letters
-lower_mark : List ℕ → Option Mark
-lower_mark v = find (λ m. bytes_eq (str_to_ascii_lowercase (mark_text m)) v) (RESERVED ++ SIGNS)
+-- symbols differ in their letters
+lower_symbol : List ℕ → Option Symbol
+lower_symbol v = find (λ m. bytes_eq (str_to_ascii_lowercase (symbol_text m)) v) (RESERVED ++ SIGNS)
 
-lower_mark_of : (m : Mark) → lower_mark (str_to_ascii_lowercase (mark_text m)) ≡ Some m
-unfolding lower_mark
-lower_mark_of mark.Select = refl
-lower_mark_of mark.From = refl
-lower_mark_of mark.Where = refl
-lower_mark_of mark.And = refl
-lower_mark_of mark.Group = refl
-lower_mark_of mark.By = refl
-lower_mark_of mark.Order = refl
-lower_mark_of mark.Asc = refl
-lower_mark_of mark.Desc = refl
-lower_mark_of mark.Between = refl
-lower_mark_of mark.Count = refl
-lower_mark_of mark.Sum = refl
-lower_mark_of mark.Min = refl
-lower_mark_of mark.Max = refl
-lower_mark_of mark.As = refl
-lower_mark_of mark.Join = refl
-lower_mark_of mark.Inner = refl
-lower_mark_of mark.On = refl
-lower_mark_of mark.In = refl
-lower_mark_of mark.Comma = refl
-lower_mark_of mark.Dot = refl
-lower_mark_of mark.Open = refl
-lower_mark_of mark.Close = refl
-lower_mark_of mark.Star = refl
-lower_mark_of mark.Question = refl
-lower_mark_of mark.Semicolon = refl
-lower_mark_of mark.Less = refl
-lower_mark_of mark.AtMost = refl
-lower_mark_of mark.Greater = refl
-lower_mark_of mark.AtLeast = refl
-lower_mark_of mark.Equals = refl
+is_found : Symbol → Option Symbol → Bool
+is_found m None = false
+is_found m (Some x) = symbol_eq x m
 
-pub marks_same : (w : List ℕ) (m n : Mark) → is_spelled w m ≡ true → is_spelled w n ≡ true → m ≡ n
-marks_same w m n h k =
+found_is : (m : Symbol) (o : Option Symbol) → is_found m o ≡ true → o ≡ Some m
+unfolding is_found
+found_is m None h = cc
+found_is m (Some x) h = ap (λ z. Some z) (symbol_same x m h)
+
+lower_symbol_of : (m : Symbol) → lower_symbol (str_to_ascii_lowercase (symbol_text m)) ≡ Some m
+unfolding lower_symbol is_found symbol_eq
+lower_symbol_of m = found_is m _ (every (λ m. is_found m (lower_symbol (str_to_ascii_lowercase (symbol_text m)))) refl m)
+
+pub symbols_same : (w : List ℕ) (m n : Symbol) → is_spelled w m ≡ true → is_spelled w n ≡ true → m ≡ n
+symbols_same w m n h k =
     let a = bytes_eq_true _ _ h in
     let b = bytes_eq_true _ _ k in
-    let c = lower_mark_of m in
-    let d = lower_mark_of n in
-    let e : str_to_ascii_lowercase (mark_text m) ≡ str_to_ascii_lowercase (mark_text n) = sym a ∙ b in
-    let f : Some m ≡ Some n = sym c ∙ ap lower_mark e ∙ d in
+    let c = lower_symbol_of m in
+    let d = lower_symbol_of n in
+    let e : str_to_ascii_lowercase (symbol_text m) ≡ str_to_ascii_lowercase (symbol_text n) = sym a ∙ b in
+    let f : Some m ≡ Some n = sym c ∙ ap lower_symbol e ∙ d in
     cc
 
 word_same : (t u : Token) (w : List ℕ) → WordToken t w → WordToken u w → t ≡ u
 word_same t u w (named r) (named s) = refl
 word_same t u w (named r) (kept {m} k s) = cc
 word_same t u w (kept {m} k s) (named r) = cc
-word_same t u w (kept {m} h r) (kept {m = n} k s) = ap token.Mark (marks_same w m n h k)
+word_same t u w (kept {m} h r) (kept {m = n} k s) = ap token.Symbol (symbols_same w m n h k)
 
 kinds : {A B : Type 0} (l d p q : Bool) → (p ≡ true → A) → (q ≡ true → B) → (l ≡ true) ⊎ ((d ≡ true) ⊎ (A ⊎ (B ⊎ ((((l || d) || p) || q) ≡ false))))
 kinds true d p q f g = inl refl
@@ -306,10 +191,10 @@ same_text t u b bs rest e s v =
 
 same_sign_token : (t u : Token) (w : List ℕ) → SignToken t w → SignToken u w → t ≡ u
 same_sign_token t u w a b =
-    let P : List ℕ → Mark → Type 0 = λ z m. is_spelled z m ≡ true in
+    let P : List ℕ → Symbol → Type 0 = λ z m. is_spelled z m ≡ true in
     let h = subst (λ z. P z a.sign) (sym a.text) (spells_itself a.sign) in
     let k = subst (λ z. P z b.sign) (sym b.text) (spells_itself b.sign) in
-    a.token ∙ ap token.Mark (marks_same w a.sign b.sign h k) ∙ sym b.token
+    a.token ∙ ap token.Symbol (symbols_same w a.sign b.sign h k) ∙ sym b.token
 
 -- one spelling, one token
 pub same_token : (t u : Token) (w rest : List ℕ) → Spells t w rest → Spells u w rest → t ≡ u
@@ -345,10 +230,10 @@ first_same t u f g r s e k a b =
 
 pub first_once : (t u : Token) (text r s : List ℕ) → IsFirst t text r → IsFirst u text s → (t ≡ u) × (r ≡ s)
 first_once t u text r s a b =
-    let n = a.longest u b.front s b.whole b.spelled in
-    let m = b.longest t a.front r a.whole a.spelled in
-    let parts = split_same a.front b.front r s (sym a.whole ∙ b.whole) (omega arith) in
-    (first_same t u a.front b.front r s parts.0 parts.1 a.spelled b.spelled, parts.1)
+    let n = a.longest u b.prefix s b.whole b.spelled in
+    let m = b.longest t a.prefix r a.whole a.spelled in
+    let parts = split_same a.prefix b.prefix r s (sym a.whole ∙ b.whole) (omega arith) in
+    (first_same t u a.prefix b.prefix r s parts.0 parts.1 a.spelled b.spelled, parts.1)
 
 -- no token begins with white space
 not_white : (b : ℕ) → is_white b ≡ true → (is_letter b ≡ false) × (is_digit_or_minus b ≡ false) × (b ≢ 34) × (b ≢ 39) × ((is_other b ≡ false) × (nat_lt b 33 ≡ true))
@@ -357,38 +242,38 @@ not_white b h = (grind (arith, nat_tests), grind (arith, nat_tests), (λ e. grin
 white_head : (b c : ℕ) (bs cs : List ℕ) → b ∷ bs ≡ c ∷ cs → nat_lt c 33 ≡ false → nat_lt b 33 ≡ true → ⊥
 white_head b c bs cs e f h = let same : b ≡ c = cc in let g : nat_lt c 33 ≡ true = rw (← same) h in cc
 
-sign_not_white : (m : Mark) (b : ℕ) (bs : List ℕ) → b ∷ bs ≡ mark_text m → nat_lt b 33 ≡ true → ⊥
-sign_not_white mark.Select b bs e h = white_head b _ bs _ e refl h
-sign_not_white mark.From b bs e h = white_head b _ bs _ e refl h
-sign_not_white mark.Where b bs e h = white_head b _ bs _ e refl h
-sign_not_white mark.And b bs e h = white_head b _ bs _ e refl h
-sign_not_white mark.Group b bs e h = white_head b _ bs _ e refl h
-sign_not_white mark.By b bs e h = white_head b _ bs _ e refl h
-sign_not_white mark.Order b bs e h = white_head b _ bs _ e refl h
-sign_not_white mark.Asc b bs e h = white_head b _ bs _ e refl h
-sign_not_white mark.Desc b bs e h = white_head b _ bs _ e refl h
-sign_not_white mark.Between b bs e h = white_head b _ bs _ e refl h
-sign_not_white mark.Count b bs e h = white_head b _ bs _ e refl h
-sign_not_white mark.Sum b bs e h = white_head b _ bs _ e refl h
-sign_not_white mark.Min b bs e h = white_head b _ bs _ e refl h
-sign_not_white mark.Max b bs e h = white_head b _ bs _ e refl h
-sign_not_white mark.As b bs e h = white_head b _ bs _ e refl h
-sign_not_white mark.Join b bs e h = white_head b _ bs _ e refl h
-sign_not_white mark.Inner b bs e h = white_head b _ bs _ e refl h
-sign_not_white mark.On b bs e h = white_head b _ bs _ e refl h
-sign_not_white mark.In b bs e h = white_head b _ bs _ e refl h
-sign_not_white mark.Comma b bs e h = white_head b _ bs _ e refl h
-sign_not_white mark.Dot b bs e h = white_head b _ bs _ e refl h
-sign_not_white mark.Open b bs e h = white_head b _ bs _ e refl h
-sign_not_white mark.Close b bs e h = white_head b _ bs _ e refl h
-sign_not_white mark.Star b bs e h = white_head b _ bs _ e refl h
-sign_not_white mark.Question b bs e h = white_head b _ bs _ e refl h
-sign_not_white mark.Semicolon b bs e h = white_head b _ bs _ e refl h
-sign_not_white mark.Less b bs e h = white_head b _ bs _ e refl h
-sign_not_white mark.AtMost b bs e h = white_head b _ bs _ e refl h
-sign_not_white mark.Greater b bs e h = white_head b _ bs _ e refl h
-sign_not_white mark.AtLeast b bs e h = white_head b _ bs _ e refl h
-sign_not_white mark.Equals b bs e h = white_head b _ bs _ e refl h
+sign_not_white : (m : Symbol) (b : ℕ) (bs : List ℕ) → b ∷ bs ≡ symbol_text m → nat_lt b 33 ≡ true → ⊥
+sign_not_white symbol.Select b bs e h = white_head b _ bs _ e refl h
+sign_not_white symbol.From b bs e h = white_head b _ bs _ e refl h
+sign_not_white symbol.Where b bs e h = white_head b _ bs _ e refl h
+sign_not_white symbol.And b bs e h = white_head b _ bs _ e refl h
+sign_not_white symbol.Group b bs e h = white_head b _ bs _ e refl h
+sign_not_white symbol.By b bs e h = white_head b _ bs _ e refl h
+sign_not_white symbol.Order b bs e h = white_head b _ bs _ e refl h
+sign_not_white symbol.Asc b bs e h = white_head b _ bs _ e refl h
+sign_not_white symbol.Desc b bs e h = white_head b _ bs _ e refl h
+sign_not_white symbol.Between b bs e h = white_head b _ bs _ e refl h
+sign_not_white symbol.Count b bs e h = white_head b _ bs _ e refl h
+sign_not_white symbol.Sum b bs e h = white_head b _ bs _ e refl h
+sign_not_white symbol.Min b bs e h = white_head b _ bs _ e refl h
+sign_not_white symbol.Max b bs e h = white_head b _ bs _ e refl h
+sign_not_white symbol.As b bs e h = white_head b _ bs _ e refl h
+sign_not_white symbol.Join b bs e h = white_head b _ bs _ e refl h
+sign_not_white symbol.Inner b bs e h = white_head b _ bs _ e refl h
+sign_not_white symbol.On b bs e h = white_head b _ bs _ e refl h
+sign_not_white symbol.In b bs e h = white_head b _ bs _ e refl h
+sign_not_white symbol.Comma b bs e h = white_head b _ bs _ e refl h
+sign_not_white symbol.Dot b bs e h = white_head b _ bs _ e refl h
+sign_not_white symbol.Open b bs e h = white_head b _ bs _ e refl h
+sign_not_white symbol.Close b bs e h = white_head b _ bs _ e refl h
+sign_not_white symbol.Star b bs e h = white_head b _ bs _ e refl h
+sign_not_white symbol.Question b bs e h = white_head b _ bs _ e refl h
+sign_not_white symbol.Semicolon b bs e h = white_head b _ bs _ e refl h
+sign_not_white symbol.Less b bs e h = white_head b _ bs _ e refl h
+sign_not_white symbol.AtMost b bs e h = white_head b _ bs _ e refl h
+sign_not_white symbol.Greater b bs e h = white_head b _ bs _ e refl h
+sign_not_white symbol.AtLeast b bs e h = white_head b _ bs _ e refl h
+sign_not_white symbol.Equals b bs e h = white_head b _ bs _ e refl h
 
 first_not_white : (t : Token) (b : ℕ) (bs rest : List ℕ) → is_white b ≡ true → Spells t (b ∷ bs) rest → ⊥
 first_not_white t b bs rest h s =
@@ -396,22 +281,22 @@ first_not_white t b bs rest h s =
     let shape = sign_shape t b bs rest w.4.0 s in
     sign_not_white shape.sign b bs shape.text w.4.1
 
-black : (t : Token) (text front rest : List ℕ) → text ≡ front ++ rest → Spells t front rest → begins_with is_white text ≡ false
+black : (t : Token) (text prefix rest : List ℕ) → text ≡ prefix ++ rest → Spells t prefix rest → begins_with is_white text ≡ false
 black t text [] rest e s = absurd (nothing_spells t rest s)
 black t text (b ∷ bs) rest e s =
     let P : List ℕ → Type 0 = λ z. begins_with is_white z ≡ false in
     let f : is_white b ≡ false = (let step : (v : Bool) → is_white b ≡ v → v ≡ false = λ v. elim v as (λ v. is_white b ≡ v → v ≡ false) [ true ↦ λ h. absurd (first_not_white t b bs rest h s) | false ↦ λ h. refl ] in step (is_white b) refl) in
     subst P (sym e) f
 
-empty_front : (t : Token) (front rest : List ℕ) → [] ≡ front ++ rest → Spells t front rest → ⊥
+empty_front : (t : Token) (prefix rest : List ℕ) → [] ≡ prefix ++ rest → Spells t prefix rest → ⊥
 empty_front t [] rest e s = nothing_spells t rest s
 empty_front t (b ∷ bs) rest e s = cc
 
 pub begins_black : (t : Token) (text rest : List ℕ) → IsFirst t text rest → begins_with is_white text ≡ false
-begins_black t text rest first = black t text first.front rest first.whole first.spelled
+begins_black t text rest first = black t text first.prefix rest first.whole first.spelled
 
 pub first_some : (t : Token) (rest : List ℕ) → IsFirst t [] rest → ⊥
-first_some t rest first = empty_front t first.front rest first.whole first.spelled
+first_some t rest first = empty_front t first.prefix rest first.whole first.spelled
 
 -- white space in front of tokens
 pub white_on : (white text : List ℕ) (tokens : List Token) → each is_white white ≡ true → AreTokens text tokens → AreTokens (white ++ text) tokens
@@ -542,13 +427,13 @@ read_stuck text read rest so_far l no_first others are =
     let f = so_far.complete others are in nothing_first rest f.others no_first so_far.black l f.are
 
 -- each token makes the rest shorter
-pub front_some : (t : Token) (front rest : List ℕ) → Spells t front rest → 0 < length front
+pub front_some : (t : Token) (prefix rest : List ℕ) → Spells t prefix rest → 0 < length prefix
 front_some t [] rest s = absurd (nothing_spells t rest s)
 front_some t (b ∷ bs) rest s = omega arith
 
 pub step_shorter : (t : Token) (rest more next_rest : List ℕ) → IsFirst t rest more → next_rest ≡ drop (prefix_len is_white more) more → length next_rest < length rest
 step_shorter t rest more next_rest first e =
-    let n : length rest ≡ length first.front + length more = ap length first.whole ∙ length-append first.front more in
+    let n : length rest ≡ length first.prefix + length more = ap length first.whole ∙ length-append first.prefix more in
     let m : length next_rest ≡ length more - prefix_len is_white more = ap length e ∙ length-drop (prefix_len is_white more) more in
-    let f = front_some t first.front more first.spelled in
+    let f = front_some t first.prefix more first.spelled in
     omega arith

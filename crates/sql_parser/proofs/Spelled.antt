@@ -9,20 +9,20 @@ use Rattle.std.specs.List.{prefix_len, starts_with}
 use Rattle.std.specs.Str.Parse.{IsNumeral, AllDigits, signed_digits_value}
 use Rattle.row_values.specs.declared.values.Value.TheVariants.{Text}
 use Rattle.sql_parser.specs.Statement.{Parts, each, is_name, is_i64}
-use Rattle.sql_parser.specs.Tokens.{is_white, is_letter, is_name_byte, is_digit_or_minus, is_other, is_spelled, mark_text, without_minus, doubled, begins_with, is_quote, IsFirst, AreTokens, none, next}
+use Rattle.sql_parser.specs.Tokens.{is_white, is_letter, is_name_byte, is_digit_or_minus, is_other, is_spelled, symbol_text, without_minus, doubled, begins_with, is_quote, IsFirst, AreTokens, none, next}
 use Rattle.sql_parser.specs.Grammar.{IsStatementText}
 use Rattle.sql_parser.specs.Reading.{◌>>=◌, statement_at}
 use Rattle.sql_parser.specs.Spelled.{after_white, with_byte, unquoted, quoted_name_at, quoted_text_at, number_at, word_of, word_at, sign_at, first_at, tokens_at, tokens_of, statement_of}
-use Rattle.sql_parser.specs.declared.tokens.Mark.{Mark}
+use Rattle.sql_parser.specs.declared.tokens.Symbol.{Symbol}
 use Rattle.sql_parser.specs.declared.tokens.Token.{Token}
 use Rattle.sql_parser.specs.declared.tokens.Token.TheVariants as token
 use Rattle.sql_parser.specs.declared.tokens.TheConstants.{RESERVED, SIGNS}
 use Rattle.sql_parser.proofs.First.{same_sign_off, fits_tested, tested_fits, number_first, number_none, name_first, name_open, name_empty, text_first, text_open}
 use Rattle.sql_parser.proofs.Quotes.{double_at, differ, begins}
 use Rattle.sql_parser.proofs.Runs.{both, and_true, run_passes, run_is}
-use Rattle.sql_parser.proofs.Scanning.{none_of, name_word, mark_word}
+use Rattle.sql_parser.proofs.Scanning.{none_of, name_word, symbol_word}
 use Rattle.sql_parser.proofs.Signs.{begins_black, white_back, white_all, first_some, first_once, front_some, sign_first, sign_none}
-use Rattle.sql_parser.proofs.Sound.{bind_some}
+use Rattle.sql_parser.proofs.Readers.{bind_some}
 use Rattle.sql_parser.proofs.Texts.{text_found}
 use Rattle.sql_parser.proofs.Whole.{statement_again}
 
@@ -153,22 +153,22 @@ number_stands b bs d =
     (λ f. number_none b bs d (λ h. let n : IsNumeral 10 (without_minus (b ∷ ds)) = rw same at h.0 in
     let t = and_true _ _ (some_name (without_minus (b ∷ ds)) n.0) (fits_tested _ h.1) in cc))
 
-word_by : (text : List ℕ) (o : Option Mark) → begins_with is_letter text ≡ true
+word_by : (text : List ℕ) (o : Option Symbol) → begins_with is_letter text ≡ true
     → find (λ m. is_spelled (take (prefix_len is_name_byte text) text) m) RESERVED ≡ o
     → IsFirst (word_of (take (prefix_len is_name_byte text) text) o) text (drop (prefix_len is_name_byte text) text)
 word_by text None l e = name_word text (take (prefix_len is_name_byte text) text) l refl e
-word_by text (Some m) l e = mark_word text (take (prefix_len is_name_byte text) text) m l refl e
+word_by text (Some m) l e = symbol_word text (take (prefix_len is_name_byte text) text) m l refl e
 
 word_stands : (b : ℕ) (bs : List ℕ) → is_letter b ≡ true → Stands (b ∷ bs) (Some (word_at (b ∷ bs)))
 word_stands b bs l = word_by (b ∷ bs) (find (λ m. is_spelled (take (prefix_len is_name_byte (b ∷ bs)) (b ∷ bs)) m) RESERVED) l refl
 
-sign_by : (b : ℕ) (bs : List ℕ) (o : Option Mark) → is_other b ≡ false → find (λ m. starts_with nat_eq (b ∷ bs) (mark_text m)) SIGNS ≡ o
-    → Stands (b ∷ bs) (o >>= λ sign. Some (token.Mark sign, drop (length (mark_text sign)) (b ∷ bs)))
+sign_by : (b : ℕ) (bs : List ℕ) (o : Option Symbol) → is_other b ≡ false → find (λ m. starts_with nat_eq (b ∷ bs) (symbol_text m)) SIGNS ≡ o
+    → Stands (b ∷ bs) (o >>= λ sign. Some (token.Symbol sign, drop (length (symbol_text sign)) (b ∷ bs)))
 sign_by b bs None o e = sign_none b bs o e
 sign_by b bs (Some m) o e = sign_first b bs m o e
 
 sign_stands : (b : ℕ) (bs : List ℕ) → is_other b ≡ false → Stands (b ∷ bs) (sign_at (b ∷ bs))
-sign_stands b bs o = sign_by b bs (find (λ m. starts_with nat_eq (b ∷ bs) (mark_text m)) SIGNS) o refl
+sign_stands b bs o = sign_by b bs (find (λ m. starts_with nat_eq (b ∷ bs) (symbol_text m)) SIGNS) o refl
 
 first_stands : (text : List ℕ) → Stands text (first_at text)
 first_stands [] = λ other rest first. first_some other rest first
@@ -210,8 +210,8 @@ one_more n t (b ∷ bs) rest tokens first e = rw (first_again (b ∷ bs) t rest 
 shorter : (w t rest : List ℕ) (first : Token) → IsFirst first t rest → length rest < length (w ++ t)
 shorter w t rest first f =
     let n : length (w ++ t) ≡ length w + length t = length-append w t in
-    let m : length t ≡ length f.front + length rest = ap length f.whole ∙ length-append f.front rest in
-    let l = front_some first f.front rest f.spelled in
+    let m : length t ≡ length f.prefix + length rest = ap length f.whole ∙ length-append f.prefix rest in
+    let l = front_some first f.prefix rest f.spelled in
     omega arith
 
 tokens_again : (n : ℕ) (text : List ℕ) (tokens : List Token) → AreTokens text tokens → length text < n → tokens_at n (after_white text) ≡ Some tokens

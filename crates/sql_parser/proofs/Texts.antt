@@ -11,8 +11,9 @@ use Rattle.sql_parser.specs.Tokens.{AreTokens, none, next, IsFirst, is_white}
 use Rattle.sql_parser.proofs.Runs.{run_is, both}
 use Rattle.sql_parser.proofs.Signs.{begins_black, goes_on, white_off, all_white}
 use Rattle.sql_parser.specs.declared.tokens.Token.{Token}
-use Rattle.sql_parser.proofs.Sound.{pair_is}
-use Rattle.sql_parser.proofs.Whole.{statement_sound, statement_again}
+use Rattle.sql_parser.proofs.Readers.{pair_is}
+use Rattle.sql_parser.proofs.ReadParts.{statement_sound}
+use Rattle.sql_parser.proofs.Whole.{statement_again}
 
 pub text_found : (text : List ℕ) (tokens : List Token) (s : Parts) (rest : List Token) → AreTokens text tokens → statement_at tokens ≡ Some (s, rest) → IsStatementText text s
 text_found text tokens s rest are e = record { tokens = tokens; are = are; spelled = (statement_sound tokens s rest e).0 }

@@ -17,47 +17,47 @@ use Rattle.sql_parser.specs.declared.statement.RawTest.TheVariants as test
 use Rattle.sql_parser.specs.declared.statement.RawCond.{RawCond}
 use Rattle.sql_parser.specs.declared.statement.RawCond.TheVariants as cond
 use Rattle.sql_parser.specs.declared.statement.RawKey.{RawKey}
-use Rattle.sql_parser.specs.declared.tokens.Mark.{Mark}
-use Rattle.sql_parser.specs.declared.tokens.Mark.TheVariants as mark
+use Rattle.sql_parser.specs.declared.tokens.Symbol.{Symbol}
+use Rattle.sql_parser.specs.declared.tokens.Symbol.TheVariants as symbol
 use Rattle.sql_parser.specs.declared.tokens.Token.{Token}
 use Rattle.sql_parser.specs.declared.tokens.Token.TheVariants as token
 
--- the place of a mark among all marks
-abbrev pub position_of : Mark → ℕ
-position_of mark.Select = 0
-position_of mark.From = 1
-position_of mark.Where = 2
-position_of mark.And = 3
-position_of mark.Group = 4
-position_of mark.By = 5
-position_of mark.Order = 6
-position_of mark.Asc = 7
-position_of mark.Desc = 8
-position_of mark.Between = 9
-position_of mark.Count = 10
-position_of mark.Sum = 11
-position_of mark.Min = 12
-position_of mark.Max = 13
-position_of mark.As = 14
-position_of mark.Join = 15
-position_of mark.Inner = 16
-position_of mark.On = 17
-position_of mark.In = 18
-position_of mark.Comma = 19
-position_of mark.Dot = 20
-position_of mark.Open = 21
-position_of mark.Close = 22
-position_of mark.Star = 23
-position_of mark.Question = 24
-position_of mark.Semicolon = 25
-position_of mark.Less = 26
-position_of mark.AtMost = 27
-position_of mark.Greater = 28
-position_of mark.AtLeast = 29
-position_of mark.Equals = 30
+-- the place of a symbol among all symbols
+abbrev pub position_of : Symbol → ℕ
+position_of symbol.Select = 0
+position_of symbol.From = 1
+position_of symbol.Where = 2
+position_of symbol.And = 3
+position_of symbol.Group = 4
+position_of symbol.By = 5
+position_of symbol.Order = 6
+position_of symbol.Asc = 7
+position_of symbol.Desc = 8
+position_of symbol.Between = 9
+position_of symbol.Count = 10
+position_of symbol.Sum = 11
+position_of symbol.Min = 12
+position_of symbol.Max = 13
+position_of symbol.As = 14
+position_of symbol.Join = 15
+position_of symbol.Inner = 16
+position_of symbol.On = 17
+position_of symbol.In = 18
+position_of symbol.Comma = 19
+position_of symbol.Dot = 20
+position_of symbol.Open = 21
+position_of symbol.Close = 22
+position_of symbol.Star = 23
+position_of symbol.Question = 24
+position_of symbol.Semicolon = 25
+position_of symbol.Less = 26
+position_of symbol.AtMost = 27
+position_of symbol.Greater = 28
+position_of symbol.AtLeast = 29
+position_of symbol.Equals = 30
 
-unfoldable pub mark_eq : Mark → Mark → Bool
-mark_eq a b = position_of a == position_of b
+unfoldable pub symbol_eq : Symbol → Symbol → Bool
+symbol_eq a b = position_of a == position_of b
 
 infixl 10 ◌>>=◌
 abbrev pub ◌>>=◌ : {A B : Type 0} → Option A → (A → Option B) → Option B
@@ -73,38 +73,38 @@ abbrev pub Gives : {X Y : Type 0} → (X → Y) → Result X ParseFault → List
 Gives view (Ok x) rest read = read ≡ Some (view x, rest)
 Gives view (Err e) rest read = Fails e read
 
--- whether the tokens begin with this mark, or with a name
-abbrev pub begins : Mark → List Token → Bool
+-- whether the tokens begin with this symbol, or with a name
+abbrev pub begins : Symbol → List Token → Bool
 begins m [] = false
 begins m (token.Name name ∷ tokens) = false
 begins m (token.Literal value ∷ tokens) = false
-begins m (token.Mark found ∷ tokens) = mark_eq found m
+begins m (token.Symbol found ∷ tokens) = symbol_eq found m
 
 abbrev pub begins_name : List Token → Bool
 begins_name [] = false
 begins_name (token.Name name ∷ tokens) = true
 begins_name (token.Literal value ∷ tokens) = false
-begins_name (token.Mark found ∷ tokens) = false
+begins_name (token.Symbol found ∷ tokens) = false
 
 abbrev pub name_at : List Token → Option (List ℕ × List Token)
 name_at [] = None
 name_at (token.Name name ∷ tokens) = Some (name, tokens)
 name_at (token.Literal value ∷ tokens) = None
-name_at (token.Mark found ∷ tokens) = None
+name_at (token.Symbol found ∷ tokens) = None
 
 abbrev pub literal_at : List Token → Option (Value × List Token)
 literal_at [] = None
 literal_at (token.Name name ∷ tokens) = None
 literal_at (token.Literal value ∷ tokens) = Some (value, tokens)
-literal_at (token.Mark found ∷ tokens) = None
+literal_at (token.Symbol found ∷ tokens) = None
 
-abbrev pub mark_at : Mark → List Token → Option (Unit {0} × List Token)
-mark_at m tokens = if begins m tokens then Some (tt, drop 1 tokens) else None
+abbrev pub symbol_at : Symbol → List Token → Option (Unit {0} × List Token)
+symbol_at m tokens = if begins m tokens then Some (tt, drop 1 tokens) else None
 
 unfoldable pub ref_at : List Token → Option (RawRef × List Token)
 ref_at tokens = do
   first ← name_at tokens
-  if begins mark.Dot first.1
+  if begins symbol.Dot first.1
       then (do
         column ← name_at (drop 1 first.1)
         Some (record { alias = Some first.0; column = column.0 }, column.1))
@@ -113,28 +113,28 @@ ref_at tokens = do
 -- "(" ref ")"
 unfoldable pub enclosed_at : List Token → Option (RawRef × List Token)
 enclosed_at tokens = do
-  open_ ← mark_at mark.Open tokens
+  open_ ← symbol_at symbol.Open tokens
   r ← ref_at open_.1
-  close ← mark_at mark.Close r.1
+  close ← symbol_at symbol.Close r.1
   Some (r.0, close.1)
 
 unfoldable pub count_at : List Token → Option (RawItem × List Token)
 count_at tokens = do
-  open_ ← mark_at mark.Open tokens
-  star ← mark_at mark.Star open_.1
-  close ← mark_at mark.Close star.1
+  open_ ← symbol_at symbol.Open tokens
+  star ← symbol_at symbol.Star open_.1
+  close ← symbol_at symbol.Close star.1
   Some (item.CountAll, close.1)
 
 unfoldable pub item_at : List Token → Option (RawItem × List Token)
 item_at tokens =
-    if begins mark.Count tokens then count_at (drop 1 tokens) else
-    if begins mark.Sum tokens then (do
+    if begins symbol.Count tokens then count_at (drop 1 tokens) else
+    if begins symbol.Sum tokens then (do
       r ← enclosed_at (drop 1 tokens)
       Some (item.Sum r.0, r.1)) else
-    if begins mark.Min tokens then (do
+    if begins symbol.Min tokens then (do
       r ← enclosed_at (drop 1 tokens)
       Some (item.Min r.0, r.1)) else
-    if begins mark.Max tokens then (do
+    if begins symbol.Max tokens then (do
       r ← enclosed_at (drop 1 tokens)
       Some (item.Max r.0, r.1)) else
     (do
@@ -144,7 +144,7 @@ item_at tokens =
 unfoldable pub place_at : List Token → Option (RawPlace × List Token)
 place_at tokens = do
   table ← name_at tokens
-  if begins mark.As table.1
+  if begins symbol.As table.1
       then (do
         alias ← name_at (drop 1 table.1)
         Some (record { table = table.0; alias = alias.0 }, alias.1))
@@ -156,7 +156,7 @@ place_at tokens = do
 
 unfoldable pub operand_at : List Token → Option (RawOperand × List Token)
 operand_at tokens =
-    if begins mark.Question tokens then Some (operand.Param, drop 1 tokens) else
+    if begins symbol.Question tokens then Some (operand.Param, drop 1 tokens) else
     (do
       value ← literal_at tokens
       Some (operand.Literal value.0, value.1))
@@ -169,11 +169,11 @@ all_at starts at (suc n) tokens = if starts tokens
     else Some ([], tokens)
 
 -- parts behind a separator, as many as there are
-unfoldable pub more_at : {T : Type 0} → Mark → (List Token → Option (T × List Token)) → List Token → Option (List T × List Token)
+unfoldable pub more_at : {T : Type 0} → Symbol → (List Token → Option (T × List Token)) → List Token → Option (List T × List Token)
 more_at separator at tokens = all_at (begins separator) (λ rest. at (drop 1 rest)) (suc (length tokens)) tokens
 
 -- a part, and more behind a separator
-unfoldable pub list_at : {T : Type 0} → Mark → (List Token → Option (T × List Token)) → List Token → Option (List T × List Token)
+unfoldable pub list_at : {T : Type 0} → Symbol → (List Token → Option (T × List Token)) → List Token → Option (List T × List Token)
 list_at separator at tokens = do
   x ← at tokens
   xs ← more_at separator at x.1
@@ -182,44 +182,44 @@ list_at separator at tokens = do
 -- BETWEEN operand AND operand
 unfoldable pub between_at : List Token → Option (RawTest × List Token)
 between_at tokens = do
-  between ← mark_at mark.Between tokens
+  between ← symbol_at symbol.Between tokens
   low ← operand_at between.1
-  and ← mark_at mark.And low.1
+  and ← symbol_at symbol.And low.1
   high ← operand_at and.1
   Some (test.Between low.0 high.0, high.1)
 
 -- "(" operand {"," operand} ")"
 unfoldable pub in_at : List Token → Option (RawTest × List Token)
 in_at tokens = do
-  open_ ← mark_at mark.Open tokens
-  operands ← list_at mark.Comma operand_at open_.1
-  close ← mark_at mark.Close operands.1
+  open_ ← symbol_at symbol.Open tokens
+  operands ← list_at symbol.Comma operand_at open_.1
+  close ← symbol_at symbol.Close operands.1
   Some (test.OneOf operands.0, close.1)
 
 unfoldable pub test_at : List Token → Option (RawTest × List Token)
 test_at tokens =
-    if begins mark.Less tokens then (do
+    if begins symbol.Less tokens then (do
       x ← operand_at (drop 1 tokens)
       Some (test.Lt x.0, x.1)) else
-    if begins mark.AtMost tokens then (do
+    if begins symbol.AtMost tokens then (do
       x ← operand_at (drop 1 tokens)
       Some (test.Le x.0, x.1)) else
-    if begins mark.Greater tokens then (do
+    if begins symbol.Greater tokens then (do
       x ← operand_at (drop 1 tokens)
       Some (test.Gt x.0, x.1)) else
-    if begins mark.AtLeast tokens then (do
+    if begins symbol.AtLeast tokens then (do
       x ← operand_at (drop 1 tokens)
       Some (test.Ge x.0, x.1)) else
-    if begins mark.Equals tokens then (do
+    if begins symbol.Equals tokens then (do
       x ← operand_at (drop 1 tokens)
       Some (test.Eq x.0, x.1)) else
-    if begins mark.In tokens then in_at (drop 1 tokens) else
+    if begins symbol.In tokens then in_at (drop 1 tokens) else
     between_at tokens
 
 unfoldable pub cond_at : List Token → Option (RawCond × List Token)
 cond_at tokens = do
   r ← ref_at tokens
-  if begins mark.Equals r.1
+  if begins symbol.Equals r.1
       then (if begins_name (drop 1 r.1)
       then (do
         s ← ref_at (drop 1 r.1)
@@ -234,47 +234,47 @@ cond_at tokens = do
 unfoldable pub key_at : List Token → Option (RawKey × List Token)
 key_at tokens = do
   r ← ref_at tokens
-  if begins mark.Desc r.1 then Some (record { at = r.0; descending = true }, drop 1 r.1) else
-      (if begins mark.Asc r.1 then Some (record { at = r.0; descending = false }, drop 1 r.1) else
+  if begins symbol.Desc r.1 then Some (record { at = r.0; descending = true }, drop 1 r.1) else
+      (if begins symbol.Asc r.1 then Some (record { at = r.0; descending = false }, drop 1 r.1) else
       Some (record { at = r.0; descending = false }, r.1))
 
 abbrev pub begins_joined : List Token → Bool
-begins_joined tokens = begins mark.Comma tokens || begins mark.Inner tokens || begins mark.Join tokens
+begins_joined tokens = begins symbol.Comma tokens || begins symbol.Inner tokens || begins symbol.Join tokens
 
 -- JOIN place ON cond {AND cond}
 unfoldable pub join_at : List Token → Option (Joined × List Token)
 join_at tokens = do
-  join ← mark_at mark.Join tokens
+  join ← symbol_at symbol.Join tokens
   place ← place_at join.1
-  on ← mark_at mark.On place.1
-  conds ← list_at mark.And cond_at on.1
+  on ← symbol_at symbol.On place.1
+  conds ← list_at symbol.And cond_at on.1
   Some (record { place = place.0; conds = conds.0 }, conds.1)
 
 unfoldable pub joined_at : List Token → Option (Joined × List Token)
 joined_at tokens =
-    if begins mark.Comma tokens then (do
+    if begins symbol.Comma tokens then (do
       place ← place_at (drop 1 tokens)
       Some (record { place = place.0; conds = [] }, place.1)) else
-    join_at (if begins mark.Inner tokens then drop 1 tokens else tokens)
+    join_at (if begins symbol.Inner tokens then drop 1 tokens else tokens)
 
 unfoldable pub joins_at : List Token → Option (List Joined × List Token)
 joins_at tokens = all_at begins_joined joined_at (suc (length tokens)) tokens
 
 unfoldable pub where_at : List Token → Option (List RawCond × List Token)
-where_at tokens = if begins mark.Where tokens then list_at mark.And cond_at (drop 1 tokens) else Some ([], tokens)
+where_at tokens = if begins symbol.Where tokens then list_at symbol.And cond_at (drop 1 tokens) else Some ([], tokens)
 
 unfoldable pub group_at : List Token → Option (List RawRef × List Token)
-group_at tokens = if begins mark.Group tokens
+group_at tokens = if begins symbol.Group tokens
     then (do
-      by ← mark_at mark.By (drop 1 tokens)
-      list_at mark.Comma ref_at by.1)
+      by ← symbol_at symbol.By (drop 1 tokens)
+      list_at symbol.Comma ref_at by.1)
     else Some ([], tokens)
 
 unfoldable pub order_at : List Token → Option (List RawKey × List Token)
-order_at tokens = if begins mark.Order tokens
+order_at tokens = if begins symbol.Order tokens
     then (do
-      by ← mark_at mark.By (drop 1 tokens)
-      list_at mark.Comma key_at by.1)
+      by ← symbol_at symbol.By (drop 1 tokens)
+      list_at symbol.Comma key_at by.1)
     else Some ([], tokens)
 
 -- whether there are tokens
@@ -284,7 +284,7 @@ is_end (t ∷ tokens) = false
 
 unfoldable pub end_at : List Token → Option (Unit {0} × List Token)
 end_at tokens =
-    if begins mark.Semicolon tokens
+    if begins symbol.Semicolon tokens
     then (if is_end (drop 1 tokens) then Some (tt, []) else None)
     else (if is_end tokens then Some (tt, []) else None)
 
@@ -304,9 +304,9 @@ source_at tokens = do
 
 unfoldable pub statement_at : List Token → Option (Parts × List Token)
 statement_at tokens = do
-  select ← mark_at mark.Select tokens
-  items ← list_at mark.Comma item_at select.1
-  from ← mark_at mark.From items.1
+  select ← symbol_at symbol.Select tokens
+  items ← list_at symbol.Comma item_at select.1
+  from ← symbol_at symbol.From items.1
   source ← source_at from.1
   groups ← group_at source.1
   order ← order_at groups.1
@@ -317,4 +317,4 @@ statement_at tokens = do
 abbrev pub is_good : Token → Bool
 is_good (token.Name name) = is_name name
 is_good (token.Literal value) = is_operand (operand.Literal value)
-is_good (token.Mark found) = true
+is_good (token.Symbol found) = true

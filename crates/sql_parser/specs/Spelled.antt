@@ -6,9 +6,9 @@ use Rattle.std.specs.List.{prefix_len, starts_with}
 use Rattle.std.specs.Str.Parse.{signed_digits_value}
 use Rattle.row_values.specs.declared.values.Value.TheVariants.{Int, Text}
 use Rattle.sql_parser.specs.Statement.{Parts, is_name, is_i64}
-use Rattle.sql_parser.specs.Tokens.{is_white, is_letter, is_name_byte, is_digit_or_minus, is_spelled, mark_text, without_minus}
+use Rattle.sql_parser.specs.Tokens.{is_white, is_letter, is_name_byte, is_digit_or_minus, is_spelled, symbol_text, without_minus}
 use Rattle.sql_parser.specs.Reading.{◌>>=◌, statement_at}
-use Rattle.sql_parser.specs.declared.tokens.Mark.{Mark}
+use Rattle.sql_parser.specs.declared.tokens.Symbol.{Symbol}
 use Rattle.sql_parser.specs.declared.tokens.Token.{Token}
 use Rattle.sql_parser.specs.declared.tokens.Token.TheVariants as token
 use Rattle.sql_parser.specs.declared.tokens.TheConstants.{RESERVED, SIGNS}
@@ -55,9 +55,9 @@ number_at byte bytes = do
   Some (number, drop (prefix_len is_ascii_digit bytes) bytes)
 
 -- a word, and which reserved word it is; a name where it is none
-abbrev pub word_of : List ℕ → Option Mark → Token
+abbrev pub word_of : List ℕ → Option Symbol → Token
 word_of word None = token.Name word
-word_of word (Some reserved) = token.Mark reserved
+word_of word (Some reserved) = token.Symbol reserved
 
 -- a word: all the letters and digits
 abbrev pub word_at : List ℕ → Token × List ℕ
@@ -69,8 +69,8 @@ word_at text = (
 -- a sign; longer signs stand first among them
 abbrev pub sign_at : List ℕ → Option (Token × List ℕ)
 sign_at text = do
-  sign ← find (λ m. starts_with nat_eq text (mark_text m)) SIGNS
-  Some (token.Mark sign, drop (length (mark_text sign)) text)
+  sign ← find (λ m. starts_with nat_eq text (symbol_text m)) SIGNS
+  Some (token.Symbol sign, drop (length (symbol_text sign)) text)
 
 -- the token at the front of a text, and what follows it
 abbrev pub first_at : List ℕ → Option (Token × List ℕ)

@@ -6,8 +6,8 @@ use Rattle.std.specs.Str.Parse.{IsNumeral, signed_digits_value}
 use Rattle.row_values.specs.Plain.{is_plain}
 use Rattle.row_values.specs.declared.values.Value.TheVariants.{Int, Text}
 use Rattle.sql_parser.specs.Statement.{each, is_name, is_i64}
-use Rattle.sql_parser.specs.declared.tokens.Mark.{Mark}
-use Rattle.sql_parser.specs.declared.tokens.Mark.TheVariants as mark
+use Rattle.sql_parser.specs.declared.tokens.Symbol.{Symbol}
+use Rattle.sql_parser.specs.declared.tokens.Symbol.TheVariants as symbol
 use Rattle.sql_parser.specs.declared.tokens.Token.{Token}
 use Rattle.sql_parser.specs.declared.tokens.Token.TheVariants as token
 use Rattle.sql_parser.specs.declared.faults.ParseFault.{ParseFault}
@@ -24,42 +24,42 @@ abbrev pub is_name_byte : ℕ → Bool
 is_name_byte byte = is_letter byte || is_ascii_digit byte
 
 -- the reserved words and the signs in their one canonical spelling
-abbrev pub mark_text : Mark → List ℕ
-mark_text mark.Select = codes "SELECT"
-mark_text mark.From = codes "FROM"
-mark_text mark.Where = codes "WHERE"
-mark_text mark.And = codes "AND"
-mark_text mark.Group = codes "GROUP"
-mark_text mark.By = codes "BY"
-mark_text mark.Order = codes "ORDER"
-mark_text mark.Asc = codes "ASC"
-mark_text mark.Desc = codes "DESC"
-mark_text mark.Between = codes "BETWEEN"
-mark_text mark.Count = codes "COUNT"
-mark_text mark.Sum = codes "SUM"
-mark_text mark.Min = codes "MIN"
-mark_text mark.Max = codes "MAX"
-mark_text mark.As = codes "AS"
-mark_text mark.Join = codes "JOIN"
-mark_text mark.Inner = codes "INNER"
-mark_text mark.On = codes "ON"
-mark_text mark.In = codes "IN"
-mark_text mark.Comma = codes ","
-mark_text mark.Dot = codes "."
-mark_text mark.Open = codes "("
-mark_text mark.Close = codes ")"
-mark_text mark.Star = codes "*"
-mark_text mark.Question = codes "?"
-mark_text mark.Semicolon = codes ";"
-mark_text mark.Less = codes "<"
-mark_text mark.AtMost = codes "<="
-mark_text mark.Greater = codes ">"
-mark_text mark.AtLeast = codes ">="
-mark_text mark.Equals = codes "="
+abbrev pub symbol_text : Symbol → List ℕ
+symbol_text symbol.Select = codes "SELECT"
+symbol_text symbol.From = codes "FROM"
+symbol_text symbol.Where = codes "WHERE"
+symbol_text symbol.And = codes "AND"
+symbol_text symbol.Group = codes "GROUP"
+symbol_text symbol.By = codes "BY"
+symbol_text symbol.Order = codes "ORDER"
+symbol_text symbol.Asc = codes "ASC"
+symbol_text symbol.Desc = codes "DESC"
+symbol_text symbol.Between = codes "BETWEEN"
+symbol_text symbol.Count = codes "COUNT"
+symbol_text symbol.Sum = codes "SUM"
+symbol_text symbol.Min = codes "MIN"
+symbol_text symbol.Max = codes "MAX"
+symbol_text symbol.As = codes "AS"
+symbol_text symbol.Join = codes "JOIN"
+symbol_text symbol.Inner = codes "INNER"
+symbol_text symbol.On = codes "ON"
+symbol_text symbol.In = codes "IN"
+symbol_text symbol.Comma = codes ","
+symbol_text symbol.Dot = codes "."
+symbol_text symbol.Open = codes "("
+symbol_text symbol.Close = codes ")"
+symbol_text symbol.Star = codes "*"
+symbol_text symbol.Question = codes "?"
+symbol_text symbol.Semicolon = codes ";"
+symbol_text symbol.Less = codes "<"
+symbol_text symbol.AtMost = codes "<="
+symbol_text symbol.Greater = codes ">"
+symbol_text symbol.AtLeast = codes ">="
+symbol_text symbol.Equals = codes "="
 
--- whether the bytes are the mark, in any case of letters
-abbrev pub is_spelled : List ℕ → Mark → Bool
-is_spelled bytes m = str_eq_ignore_ascii_case bytes (mark_text m)
+-- whether the bytes are the symbol, in any case of letters
+abbrev pub is_spelled : List ℕ → Symbol → Bool
+is_spelled bytes m = str_eq_ignore_ascii_case bytes (symbol_text m)
 
 -- the bytes with each quote doubled
 abbrev pub doubled : ℕ → List ℕ → List ℕ
@@ -101,14 +101,14 @@ pub data Spells : Token → List ℕ → List ℕ → Type 0 where
   whole_number : {bytes rest : List ℕ} → IsNumeral 10 (without_minus bytes) → IsTrue (is_i64 (signed_digits_value 10 bytes))
       → begins_with is_ascii_digit rest ≡ false → Spells (token.Literal (Int (signed_digits_value 10 bytes))) bytes rest
   quoted_text : {bytes rest : List ℕ} → begins_with (is_quote 39) rest ≡ false → Spells (token.Literal (Text bytes)) (quoted 39 bytes) rest
-  reserved_or_sign : {m : Mark} {bytes rest : List ℕ} → IsTrue (is_spelled bytes m) → Spells (token.Mark m) bytes rest
+  reserved_or_sign : {m : Symbol} {bytes rest : List ℕ} → IsTrue (is_spelled bytes m) → Spells (token.Symbol m) bytes rest
 
 -- the text begins with this token, and the rest follows: a token is the longest one that stands there
 pub record IsFirst (first : Token) (text rest : List ℕ) : Type 0 where
-  pub front : List ℕ
-  pub whole : text ≡ front ++ rest
-  pub spelled : Spells first front rest
-  pub longest : (other : Token) (bytes more : List ℕ) → text ≡ bytes ++ more → Spells other bytes more → length bytes ≤ length front
+  pub prefix : List ℕ
+  pub whole : text ≡ prefix ++ rest
+  pub spelled : Spells first prefix rest
+  pub longest : (other : Token) (bytes more : List ℕ) → text ≡ bytes ++ more → Spells other bytes more → length bytes ≤ length prefix
 
 -- the tokens of a text, with white space between them or none
 pub data AreTokens : List ℕ → List Token → Type 0 where

@@ -2,8 +2,10 @@
 ghost use Rattle.std.specs.Prelude.{◌≡◌, ℕ, List, Some};
 ghost use Rattle.sql_parser.specs.Grammar.{IsStatementText};
 ghost use Rattle.sql_parser.specs.Canonical.{canonical_text};
-ghost use Rattle.sql_parser.specs.Spelled.{statement_of};
+ghost use Rattle.sql_parser.specs.Spelled.{first_at, statement_of};
 ghost use Rattle.sql_parser.specs.Statement.{Parts, IsSound};
+ghost use Rattle.sql_parser.specs.Tokens.{IsFirst};
+ghost use Rattle.sql_parser.specs.declared.tokens.Token.{Token};
 
 /// The grammar is unambiguous: no text has two readings.
 pub fn one_reading()
@@ -20,4 +22,11 @@ pub fn canonical_text_is_read()
 pub fn statement_of_is_the_grammar()
     ensures only { (text : List ℕ) (s : Parts) → statement_of text ≡ Some s → IsStatementText text s }
     ensures all { (text : List ℕ) (s : Parts) → IsStatementText text s → statement_of text ≡ Some s }
+{}
+
+/// The token that stands at the front of a text, as a function of the text, is the one that the grammar relates to it,
+/// with the text that follows it, and there is none exactly where the grammar relates none.
+pub fn first_at_is_the_grammar()
+    ensures only { (text rest : List ℕ) (token : Token) → first_at text ≡ Some (token, rest) → IsFirst token text rest }
+    ensures all { (text rest : List ℕ) (token : Token) → IsFirst token text rest → first_at text ≡ Some (token, rest) }
 {}

@@ -19,4 +19,4 @@ pub use printing::print;
 pub use statement::{
     RawCond, RawItem, RawKey, RawOperand, RawOperands, RawPlace, RawRef, RawTest, Select,
 };
-pub use tokens::{Mark, Token, take_token};
+pub use tokens::{Symbol, Token, take_token};

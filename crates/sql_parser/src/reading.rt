@@ -5,32 +5,32 @@
 //! To add a production, add it here, to `specs/Grammar.antt` and to `specs/Reading.antt`.
 ghost use Rattle.std.specs.Prelude.{◌≡◌, drop, if◌then◌else◌, IsTrue};
 ghost use Rattle.sql_parser.specs.Statement.{each};
-ghost use Rattle.sql_parser.specs.declared.tokens.Mark.TheVariants as mark;
+ghost use Rattle.sql_parser.specs.declared.tokens.Symbol.TheVariants as symbol;
 ghost use Rattle.sql_parser.specs.Reading as read;
 
 use crate::faults::ParseFault;
 use crate::statement::{
     RawCond, RawItem, RawKey, RawOperand, RawOperands, RawPlace, RawRef, RawTest, Select,
 };
-use crate::tokens::{Mark, Token};
+use crate::tokens::{Symbol, Token};
 use row_values::{Value, Words};
 use std::alloc::Global;
 use std::collections::VecDeque;
 
-/// Whether two marks are the same.
-#[tactic(auto, unfolding(crate::specs::Reading::mark_eq))]
-fn is_same(found: Mark, mark: Mark) -> bool
-    ensures { result ≡ read.mark_eq found mark }
+/// Whether two symbols are the same.
+#[tactic(auto, unfolding(crate::specs::Reading::symbol_eq))]
+fn is_same(found: Symbol, symbol: Symbol) -> bool
+    ensures { result ≡ read.symbol_eq found symbol }
 {
-    found == mark
+    found == symbol
 }
 
-/// Whether the tokens begin with this mark.
-fn begins(tokens: &VecDeque<Token>, mark: Mark) -> bool
-    ensures { result ≡ read.begins mark tokens.now.items }
+/// Whether the tokens begin with this symbol.
+fn begins(tokens: &VecDeque<Token>, symbol: Symbol) -> bool
+    ensures { result ≡ read.begins symbol tokens.now.items }
 {
     match tokens.front() {
-        Some(Token::Mark(found)) => is_same(*found, mark),
+        Some(Token::Symbol(found)) => is_same(*found, symbol),
         _ => false,
     }
 }
@@ -42,23 +42,23 @@ fn begins_name(tokens: &VecDeque<Token>) -> bool
     matches!(tokens.front(), Some(Token::Name(_)))
 }
 
-/// Takes this mark where it is next, and says whether it was.
-fn accept(tokens: &mut VecDeque<Token>, mark: Mark) -> bool
-    ensures value { result ≡ read.begins mark tokens.old.items }
+/// Takes this symbol where it is next, and says whether it was.
+fn accept(tokens: &mut VecDeque<Token>, symbol: Symbol) -> bool
+    ensures value { result ≡ read.begins symbol tokens.old.items }
     ensures rest { tokens.new.items ≡ (if result then drop 1 tokens.old.items else tokens.old.items) }
 {
-    let found = begins(tokens, mark);
+    let found = begins(tokens, symbol);
     if found {
         tokens.pop_front();
     }
     found
 }
 
-/// Takes this mark.
-fn expect(tokens: &mut VecDeque<Token>, mark: Mark) -> Result<(), ParseFault>
-    ensures { read.Gives (λ x. x) result tokens.new.items (read.mark_at mark tokens.old.items) }
+/// Takes this symbol.
+fn expect(tokens: &mut VecDeque<Token>, symbol: Symbol) -> Result<(), ParseFault>
+    ensures { read.Gives (λ x. x) result tokens.new.items (read.symbol_at symbol tokens.old.items) }
 {
-    if accept(tokens, mark) {
+    if accept(tokens, symbol) {
         Ok(())
     } else {
         Err(ParseFault::Syntax)
@@ -91,7 +91,7 @@ fn take_ref(tokens: &mut VecDeque<Token>) -> Result<RawRef, ParseFault>
     ensures { read.Gives (λ x. x) result tokens.new.items (read.ref_at tokens.old.items) }
 {
     let first = take_name(tokens)?;
-    if accept(tokens, Mark::Dot) {
+    if accept(tokens, Symbol::Dot) {
         let column = take_name(tokens)?;
         return Ok(RawRef {
             alias: Some(first),
@@ -109,9 +109,9 @@ fn take_ref(tokens: &mut VecDeque<Token>) -> Result<RawRef, ParseFault>
 fn take_enclosed(tokens: &mut VecDeque<Token>) -> Result<RawRef, ParseFault>
     ensures { read.Gives (λ x. x) result tokens.new.items (read.enclosed_at tokens.old.items) }
 {
-    expect(tokens, Mark::Open)?;
+    expect(tokens, Symbol::Open)?;
     let at = take_ref(tokens)?;
-    expect(tokens, Mark::Close)?;
+    expect(tokens, Symbol::Close)?;
     Ok(at)
 }
 
@@ -120,9 +120,9 @@ fn take_enclosed(tokens: &mut VecDeque<Token>) -> Result<RawRef, ParseFault>
 fn take_count(tokens: &mut VecDeque<Token>) -> Result<RawItem, ParseFault>
     ensures { read.Gives (λ x. x) result tokens.new.items (read.count_at tokens.old.items) }
 {
-    expect(tokens, Mark::Open)?;
-    expect(tokens, Mark::Star)?;
-    expect(tokens, Mark::Close)?;
+    expect(tokens, Symbol::Open)?;
+    expect(tokens, Symbol::Star)?;
+    expect(tokens, Symbol::Close)?;
     Ok(RawItem::CountAll)
 }
 
@@ -131,16 +131,16 @@ fn take_count(tokens: &mut VecDeque<Token>) -> Result<RawItem, ParseFault>
 fn take_item(tokens: &mut VecDeque<Token>) -> Result<RawItem, ParseFault>
     ensures { read.Gives (λ x. x) result tokens.new.items (read.item_at tokens.old.items) }
 {
-    if accept(tokens, Mark::Count) {
+    if accept(tokens, Symbol::Count) {
         return take_count(tokens);
     }
-    if accept(tokens, Mark::Sum) {
+    if accept(tokens, Symbol::Sum) {
         return Ok(RawItem::Sum(take_enclosed(tokens)?));
     }
-    if accept(tokens, Mark::Min) {
+    if accept(tokens, Symbol::Min) {
         return Ok(RawItem::Min(take_enclosed(tokens)?));
     }
-    if accept(tokens, Mark::Max) {
+    if accept(tokens, Symbol::Max) {
         return Ok(RawItem::Max(take_enclosed(tokens)?));
     }
     Ok(RawItem::Column(take_ref(tokens)?))
@@ -152,7 +152,7 @@ fn take_place(alloc: Global, tokens: &mut VecDeque<Token>) -> Result<RawPlace, P
     ensures { read.Gives (λ x. x) result tokens.new.items (read.place_at tokens.old.items) }
 {
     let table = take_name(tokens)?;
-    if accept(tokens, Mark::As) {
+    if accept(tokens, Symbol::As) {
         let alias = take_name(tokens)?;
         return Ok(RawPlace { table, alias });
     }
@@ -169,7 +169,7 @@ fn take_place(alloc: Global, tokens: &mut VecDeque<Token>) -> Result<RawPlace, P
 fn take_operand(tokens: &mut VecDeque<Token>) -> Result<RawOperand, ParseFault>
     ensures { read.Gives (λ x. x) result tokens.new.items (read.operand_at tokens.old.items) }
 {
-    if accept(tokens, Mark::Question) {
+    if accept(tokens, Symbol::Question) {
         return Ok(RawOperand::Param);
     }
     Ok(RawOperand::Literal(take_literal(tokens)?))
@@ -180,21 +180,21 @@ fn take_operand(tokens: &mut VecDeque<Token>) -> Result<RawOperand, ParseFault>
 fn take_between(tokens: &mut VecDeque<Token>) -> Result<RawTest, ParseFault>
     ensures { read.Gives (λ x. x) result tokens.new.items (read.between_at tokens.old.items) }
 {
-    expect(tokens, Mark::Between)?;
+    expect(tokens, Symbol::Between)?;
     let low = take_operand(tokens)?;
-    expect(tokens, Mark::And)?;
+    expect(tokens, Symbol::And)?;
     let high = take_operand(tokens)?;
     Ok(RawTest::Between(low, high))
 }
 
 /// Takes operands, a comma between two.
 fn take_operands(alloc: Global, tokens: &mut VecDeque<Token>) -> Result<Vec<RawOperand>, ParseFault>
-    ensures { read.Gives (λ v. v.items) result tokens.new.items (read.list_at mark.Comma read.operand_at tokens.old.items) }
+    ensures { read.Gives (λ v. v.items) result tokens.new.items (read.list_at symbol.Comma read.operand_at tokens.old.items) }
 {
     let mut operands = Vec::new(alloc);
     let first = take_operand(tokens)?;
     operands.push(first)?;
-    while accept(tokens, Mark::Comma) {
+    while accept(tokens, Symbol::Comma) {
         let next = take_operand(tokens)?;
         operands.push(next)?;
     }
@@ -206,9 +206,9 @@ fn take_operands(alloc: Global, tokens: &mut VecDeque<Token>) -> Result<Vec<RawO
 fn take_in(alloc: Global, tokens: &mut VecDeque<Token>) -> Result<RawTest, ParseFault>
     ensures { read.Gives (λ x. x) result tokens.new.items (read.in_at tokens.old.items) }
 {
-    expect(tokens, Mark::Open)?;
+    expect(tokens, Symbol::Open)?;
     let operands = take_operands(alloc, tokens)?;
-    expect(tokens, Mark::Close)?;
+    expect(tokens, Symbol::Close)?;
     Ok(RawTest::OneOf(RawOperands::of(operands)))
 }
 
@@ -217,22 +217,22 @@ fn take_in(alloc: Global, tokens: &mut VecDeque<Token>) -> Result<RawTest, Parse
 fn take_test(alloc: Global, tokens: &mut VecDeque<Token>) -> Result<RawTest, ParseFault>
     ensures { read.Gives (λ x. x) result tokens.new.items (read.test_at tokens.old.items) }
 {
-    if accept(tokens, Mark::Less) {
+    if accept(tokens, Symbol::Less) {
         return Ok(RawTest::Lt(take_operand(tokens)?));
     }
-    if accept(tokens, Mark::AtMost) {
+    if accept(tokens, Symbol::AtMost) {
         return Ok(RawTest::Le(take_operand(tokens)?));
     }
-    if accept(tokens, Mark::Greater) {
+    if accept(tokens, Symbol::Greater) {
         return Ok(RawTest::Gt(take_operand(tokens)?));
     }
-    if accept(tokens, Mark::AtLeast) {
+    if accept(tokens, Symbol::AtLeast) {
         return Ok(RawTest::Ge(take_operand(tokens)?));
     }
-    if accept(tokens, Mark::Equals) {
+    if accept(tokens, Symbol::Equals) {
         return Ok(RawTest::Eq(take_operand(tokens)?));
     }
-    if accept(tokens, Mark::In) {
+    if accept(tokens, Symbol::In) {
         return take_in(alloc, tokens);
     }
     take_between(tokens)
@@ -244,7 +244,7 @@ fn take_cond(alloc: Global, tokens: &mut VecDeque<Token>) -> Result<RawCond, Par
     ensures { read.Gives (λ x. x) result tokens.new.items (read.cond_at tokens.old.items) }
 {
     let left = take_ref(tokens)?;
-    if accept(tokens, Mark::Equals) {
+    if accept(tokens, Symbol::Equals) {
         if begins_name(tokens) {
             let right = take_ref(tokens)?;
             return Ok(RawCond::Same(left, right));
@@ -262,13 +262,13 @@ fn take_key(tokens: &mut VecDeque<Token>) -> Result<RawKey, ParseFault>
     ensures { read.Gives (λ x. x) result tokens.new.items (read.key_at tokens.old.items) }
 {
     let at = take_ref(tokens)?;
-    if accept(tokens, Mark::Desc) {
+    if accept(tokens, Symbol::Desc) {
         return Ok(RawKey {
             at,
             descending: true,
         });
     }
-    accept(tokens, Mark::Asc);
+    accept(tokens, Symbol::Asc);
     Ok(RawKey {
         at,
         descending: false,
@@ -277,12 +277,12 @@ fn take_key(tokens: &mut VecDeque<Token>) -> Result<RawKey, ParseFault>
 
 /// Takes items, a comma between two.
 fn take_items(alloc: Global, tokens: &mut VecDeque<Token>) -> Result<Vec<RawItem>, ParseFault>
-    ensures { read.Gives (λ v. v.items) result tokens.new.items (read.list_at mark.Comma read.item_at tokens.old.items) }
+    ensures { read.Gives (λ v. v.items) result tokens.new.items (read.list_at symbol.Comma read.item_at tokens.old.items) }
 {
     let mut items = Vec::new(alloc);
     let first = take_item(tokens)?;
     items.push(first)?;
-    while accept(tokens, Mark::Comma) {
+    while accept(tokens, Symbol::Comma) {
         let next = take_item(tokens)?;
         items.push(next)?;
     }
@@ -291,12 +291,12 @@ fn take_items(alloc: Global, tokens: &mut VecDeque<Token>) -> Result<Vec<RawItem
 
 /// Takes conditions, AND between two.
 fn take_conds(alloc: Global, tokens: &mut VecDeque<Token>) -> Result<Vec<RawCond>, ParseFault>
-    ensures { read.Gives (λ v. v.items) result tokens.new.items (read.list_at mark.And read.cond_at tokens.old.items) }
+    ensures { read.Gives (λ v. v.items) result tokens.new.items (read.list_at symbol.And read.cond_at tokens.old.items) }
 {
     let mut conds = Vec::new(alloc);
     let first = take_cond(alloc, tokens)?;
     conds.push(first)?;
-    'conds: while accept(tokens, Mark::And) {
+    'conds: while accept(tokens, Symbol::And) {
         let next = take_cond(alloc, tokens)?;
         conds.push(next)?;
     }
@@ -305,12 +305,12 @@ fn take_conds(alloc: Global, tokens: &mut VecDeque<Token>) -> Result<Vec<RawCond
 
 /// Takes references, a comma between two.
 fn take_refs(alloc: Global, tokens: &mut VecDeque<Token>) -> Result<Vec<RawRef>, ParseFault>
-    ensures { read.Gives (λ v. v.items) result tokens.new.items (read.list_at mark.Comma read.ref_at tokens.old.items) }
+    ensures { read.Gives (λ v. v.items) result tokens.new.items (read.list_at symbol.Comma read.ref_at tokens.old.items) }
 {
     let mut refs = Vec::new(alloc);
     let first = take_ref(tokens)?;
     refs.push(first)?;
-    while accept(tokens, Mark::Comma) {
+    while accept(tokens, Symbol::Comma) {
         let next = take_ref(tokens)?;
         refs.push(next)?;
     }
@@ -319,12 +319,12 @@ fn take_refs(alloc: Global, tokens: &mut VecDeque<Token>) -> Result<Vec<RawRef>,
 
 /// Takes keys, a comma between two.
 fn take_keys(alloc: Global, tokens: &mut VecDeque<Token>) -> Result<Vec<RawKey>, ParseFault>
-    ensures { read.Gives (λ v. v.items) result tokens.new.items (read.list_at mark.Comma read.key_at tokens.old.items) }
+    ensures { read.Gives (λ v. v.items) result tokens.new.items (read.list_at symbol.Comma read.key_at tokens.old.items) }
 {
     let mut keys = Vec::new(alloc);
     let first = take_key(tokens)?;
     keys.push(first)?;
-    while accept(tokens, Mark::Comma) {
+    while accept(tokens, Symbol::Comma) {
         let next = take_key(tokens)?;
         keys.push(next)?;
     }
@@ -343,9 +343,9 @@ struct Join {
 fn take_join(alloc: Global, tokens: &mut VecDeque<Token>) -> Result<Join, ParseFault>
     ensures { read.Gives (λ j. record { place = j.place; conds = j.conds.items }) result tokens.new.items (read.join_at tokens.old.items) }
 {
-    expect(tokens, Mark::Join)?;
+    expect(tokens, Symbol::Join)?;
     let place = take_place(alloc, tokens)?;
-    expect(tokens, Mark::On)?;
+    expect(tokens, Symbol::On)?;
     let conds = take_conds(alloc, tokens)?;
     Ok(Join { place, conds })
 }
@@ -355,14 +355,14 @@ fn take_join(alloc: Global, tokens: &mut VecDeque<Token>) -> Result<Join, ParseF
 fn take_joined(alloc: Global, tokens: &mut VecDeque<Token>) -> Result<Join, ParseFault>
     ensures { read.Gives (λ j. record { place = j.place; conds = j.conds.items }) result tokens.new.items (read.joined_at tokens.old.items) }
 {
-    if accept(tokens, Mark::Comma) {
+    if accept(tokens, Symbol::Comma) {
         let place = take_place(alloc, tokens)?;
         return Ok(Join {
             place,
             conds: Vec::new(alloc),
         });
     }
-    accept(tokens, Mark::Inner);
+    accept(tokens, Symbol::Inner);
     take_join(alloc, tokens)
 }
 
@@ -370,7 +370,7 @@ fn take_joined(alloc: Global, tokens: &mut VecDeque<Token>) -> Result<Join, Pars
 fn begins_joined(tokens: &VecDeque<Token>) -> bool
     ensures { result ≡ read.begins_joined tokens.now.items }
 {
-    begins(tokens, Mark::Comma) || begins(tokens, Mark::Inner) || begins(tokens, Mark::Join)
+    begins(tokens, Symbol::Comma) || begins(tokens, Symbol::Inner) || begins(tokens, Symbol::Join)
 }
 
 /// Takes the places of FROM, and the conditions of its joins.
@@ -397,7 +397,7 @@ fn take_from(
 fn take_where(alloc: Global, tokens: &mut VecDeque<Token>) -> Result<Vec<RawCond>, ParseFault>
     ensures { read.Gives (λ v. v.items) result tokens.new.items (read.where_at tokens.old.items) }
 {
-    if !accept(tokens, Mark::Where) {
+    if !accept(tokens, Symbol::Where) {
         return Ok(Vec::new(alloc));
     }
     take_conds(alloc, tokens)
@@ -422,10 +422,10 @@ fn take_source(
 fn take_group(alloc: Global, tokens: &mut VecDeque<Token>) -> Result<Vec<RawRef>, ParseFault>
     ensures { read.Gives (λ v. v.items) result tokens.new.items (read.group_at tokens.old.items) }
 {
-    if !accept(tokens, Mark::Group) {
+    if !accept(tokens, Symbol::Group) {
         return Ok(Vec::new(alloc));
     }
-    expect(tokens, Mark::By)?;
+    expect(tokens, Symbol::By)?;
     take_refs(alloc, tokens)
 }
 
@@ -434,10 +434,10 @@ fn take_group(alloc: Global, tokens: &mut VecDeque<Token>) -> Result<Vec<RawRef>
 fn take_order(alloc: Global, tokens: &mut VecDeque<Token>) -> Result<Vec<RawKey>, ParseFault>
     ensures { read.Gives (λ v. v.items) result tokens.new.items (read.order_at tokens.old.items) }
 {
-    if !accept(tokens, Mark::Order) {
+    if !accept(tokens, Symbol::Order) {
         return Ok(Vec::new(alloc));
     }
-    expect(tokens, Mark::By)?;
+    expect(tokens, Symbol::By)?;
     take_keys(alloc, tokens)
 }
 
@@ -446,7 +446,7 @@ fn take_order(alloc: Global, tokens: &mut VecDeque<Token>) -> Result<Vec<RawKey>
 fn take_end(tokens: &mut VecDeque<Token>) -> Result<(), ParseFault>
     ensures { read.Gives (λ x. x) result tokens.new.items (read.end_at tokens.old.items) }
 {
-    accept(tokens, Mark::Semicolon);
+    accept(tokens, Symbol::Semicolon);
     if tokens.is_empty() {
         Ok(())
     } else {
@@ -460,9 +460,9 @@ pub fn take_statement(alloc: Global, tokens: &mut VecDeque<Token>) -> Result<Sel
     requires { IsTrue (each read.is_good tokens.old.items) }
     ensures { read.Gives (λ x. x) result tokens.new.items (read.statement_at tokens.old.items) }
 {
-    expect(tokens, Mark::Select)?;
+    expect(tokens, Symbol::Select)?;
     let items = take_items(alloc, tokens)?;
-    expect(tokens, Mark::From)?;
+    expect(tokens, Symbol::From)?;
     let (places, conds) = take_source(alloc, tokens)?;
     let groups = take_group(alloc, tokens)?;
     let order = take_order(alloc, tokens)?;

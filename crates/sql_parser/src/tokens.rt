@@ -1,7 +1,7 @@
 //! Tokens: what a statement's text falls into before the grammar is asked.
 //!
 //! A token is the longest one that stands there, so white space is needed only where two tokens would run together.
-//! `tokens_of` reads a whole text, `take_token` the front of one. To add a reserved word or a sign, add its `Mark`,
+//! `tokens_of` reads a whole text, `take_token` the front of one. To add a reserved word or a sign, add its `Symbol`,
 //! its text here and in `specs/Tokens.antt`, and its place in `RESERVED` or `SIGNS`; a word also among those that
 //! `row_values` quotes.
 ghost use Rattle.std.specs.Prelude.{◌≡◌, ◌<◌, List, ◌∷◌, false, find, nat_eq, drop, option_map, IfOk, IsErrOf, IsTrue};
@@ -18,7 +18,7 @@ use std::collections::VecDeque;
 
 /// A reserved word or a sign.
 #[derive(Clone, Copy, Debug, PartialEq, Eq)]
-pub enum Mark {
+pub enum Symbol {
     Select,
     From,
     Where,
@@ -53,42 +53,42 @@ pub enum Mark {
 }
 
 /// The reserved words, none of which is a plain name.
-pub const RESERVED: [Mark; 19] = [
-    Mark::Select,
-    Mark::From,
-    Mark::Where,
-    Mark::And,
-    Mark::Group,
-    Mark::By,
-    Mark::Order,
-    Mark::Asc,
-    Mark::Desc,
-    Mark::Between,
-    Mark::Count,
-    Mark::Sum,
-    Mark::Min,
-    Mark::Max,
-    Mark::As,
-    Mark::Join,
-    Mark::Inner,
-    Mark::On,
-    Mark::In,
+pub const RESERVED: [Symbol; 19] = [
+    Symbol::Select,
+    Symbol::From,
+    Symbol::Where,
+    Symbol::And,
+    Symbol::Group,
+    Symbol::By,
+    Symbol::Order,
+    Symbol::Asc,
+    Symbol::Desc,
+    Symbol::Between,
+    Symbol::Count,
+    Symbol::Sum,
+    Symbol::Min,
+    Symbol::Max,
+    Symbol::As,
+    Symbol::Join,
+    Symbol::Inner,
+    Symbol::On,
+    Symbol::In,
 ];
 
 /// The signs, a longer one before those that begin it.
-pub const SIGNS: [Mark; 12] = [
-    Mark::Comma,
-    Mark::Dot,
-    Mark::Open,
-    Mark::Close,
-    Mark::Star,
-    Mark::Question,
-    Mark::Semicolon,
-    Mark::AtMost,
-    Mark::Less,
-    Mark::AtLeast,
-    Mark::Greater,
-    Mark::Equals,
+pub const SIGNS: [Symbol; 12] = [
+    Symbol::Comma,
+    Symbol::Dot,
+    Symbol::Open,
+    Symbol::Close,
+    Symbol::Star,
+    Symbol::Question,
+    Symbol::Semicolon,
+    Symbol::AtMost,
+    Symbol::Less,
+    Symbol::AtLeast,
+    Symbol::Greater,
+    Symbol::Equals,
 ];
 
 /// A token of a text: a name without its quotes, a number or text, or a reserved word or sign.
@@ -96,46 +96,46 @@ pub const SIGNS: [Mark; 12] = [
 pub enum Token {
     Name(Words),
     Literal(Value),
-    Mark(Mark),
+    Symbol(Symbol),
 }
 
-impl Mark {
+impl Symbol {
     /// The one canonical spelling.
     pub fn text(self) -> &'static str
-        ensures { result.now ≡ spelled.mark_text self }
+        ensures { result.now ≡ spelled.symbol_text self }
     {
         match self {
-            Mark::Select => "SELECT",
-            Mark::From => "FROM",
-            Mark::Where => "WHERE",
-            Mark::And => "AND",
-            Mark::Group => "GROUP",
-            Mark::By => "BY",
-            Mark::Order => "ORDER",
-            Mark::Asc => "ASC",
-            Mark::Desc => "DESC",
-            Mark::Between => "BETWEEN",
-            Mark::Count => "COUNT",
-            Mark::Sum => "SUM",
-            Mark::Min => "MIN",
-            Mark::Max => "MAX",
-            Mark::As => "AS",
-            Mark::Join => "JOIN",
-            Mark::Inner => "INNER",
-            Mark::On => "ON",
-            Mark::In => "IN",
-            Mark::Comma => ",",
-            Mark::Dot => ".",
-            Mark::Open => "(",
-            Mark::Close => ")",
-            Mark::Star => "*",
-            Mark::Question => "?",
-            Mark::Semicolon => ";",
-            Mark::Less => "<",
-            Mark::AtMost => "<=",
-            Mark::Greater => ">",
-            Mark::AtLeast => ">=",
-            Mark::Equals => "=",
+            Symbol::Select => "SELECT",
+            Symbol::From => "FROM",
+            Symbol::Where => "WHERE",
+            Symbol::And => "AND",
+            Symbol::Group => "GROUP",
+            Symbol::By => "BY",
+            Symbol::Order => "ORDER",
+            Symbol::Asc => "ASC",
+            Symbol::Desc => "DESC",
+            Symbol::Between => "BETWEEN",
+            Symbol::Count => "COUNT",
+            Symbol::Sum => "SUM",
+            Symbol::Min => "MIN",
+            Symbol::Max => "MAX",
+            Symbol::As => "AS",
+            Symbol::Join => "JOIN",
+            Symbol::Inner => "INNER",
+            Symbol::On => "ON",
+            Symbol::In => "IN",
+            Symbol::Comma => ",",
+            Symbol::Dot => ".",
+            Symbol::Open => "(",
+            Symbol::Close => ")",
+            Symbol::Star => "*",
+            Symbol::Question => "?",
+            Symbol::Semicolon => ";",
+            Symbol::Less => "<",
+            Symbol::AtMost => "<=",
+            Symbol::Greater => ">",
+            Symbol::AtLeast => ">=",
+            Symbol::Equals => "=",
         }
     }
 }
@@ -191,24 +191,24 @@ fn digits_len(bytes: &[u8]) -> usize
         .count()
 }
 
-/// The first of these marks that the bytes are, in any case of letters.
-fn mark_of(marks: &[Mark], word: &str) -> Option<Mark>
-    ensures { result ≡ find (λ m. spelled.is_spelled word.now m) marks.now }
+/// The first of these symbols that the bytes are, in any case of letters.
+fn symbol_of(symbols: &[Symbol], word: &str) -> Option<Symbol>
+    ensures { result ≡ find (λ m. spelled.is_spelled word.now m) symbols.now }
 {
-    marks
+    symbols
         .iter()
         .copied()
-        .find(|mark| word.eq_ignore_ascii_case(mark.text()))
+        .find(|symbol| word.eq_ignore_ascii_case(symbol.text()))
 }
 
-/// The first of these marks that the bytes begin with.
-fn mark_at(marks: &[Mark], bytes: &[u8]) -> Option<Mark>
-    ensures { result ≡ find (λ m. starts_with nat_eq bytes.now (spelled.mark_text m)) marks.now }
+/// The first of these symbols that the bytes begin with.
+fn symbol_at(symbols: &[Symbol], bytes: &[u8]) -> Option<Symbol>
+    ensures { result ≡ find (λ m. starts_with nat_eq bytes.now (spelled.symbol_text m)) symbols.now }
 {
-    marks
+    symbols
         .iter()
         .copied()
-        .find(|mark| bytes.starts_with(mark.text().as_bytes()))
+        .find(|symbol| bytes.starts_with(symbol.text().as_bytes()))
 }
 
 /// What stands before the closing quote, each doubled quote once, and how many bytes that takes with the closing
@@ -275,8 +275,8 @@ fn word(alloc: Global, text: &str) -> Result<(Token, usize), ParseFault>
 {
     let len = word_len(text);
     let word = &text[..len];
-    match mark_of(&RESERVED, word) {
-        Some(mark) => Ok((Token::Mark(mark), len)),
+    match symbol_of(&RESERVED, word) {
+        Some(symbol) => Ok((Token::Symbol(symbol), len)),
         None => Ok((Token::Name(Words::of(alloc, word)?), len)),
     }
 }
@@ -286,8 +286,8 @@ fn sign(text: &str) -> Result<(Token, usize), ParseFault>
     requires { spelled.begins_with spelled.is_other text.now ≡ false }
     ensures { spelled.Finds text.now result }
 {
-    match mark_at(&SIGNS, text.as_bytes()) {
-        Some(mark) => Ok((Token::Mark(mark), mark.text().len())),
+    match symbol_at(&SIGNS, text.as_bytes()) {
+        Some(symbol) => Ok((Token::Symbol(symbol), symbol.text().len())),
         None => Err(ParseFault::Syntax),
     }
 }

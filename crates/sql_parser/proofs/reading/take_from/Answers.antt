@@ -1,7 +1,7 @@
 use Rattle.std.proofs.Common.{sym}
 use Rattle.std.proofs.lemmas.Result.{err_from_is_err_and}
 use Rattle.sql_parser.proofs.Lists.{from_start, from_step, err_from}
-use Rattle.sql_parser.proofs.Sound.{joined_shorter}
+use Rattle.sql_parser.proofs.ReadParts.{joined_shorter}
 use Rattle.sql_parser.proofs.reading.take_from.Goals as goal
 
 pub returns-in_err-first : goal.returns-in_err-first

@@ -1,36 +1,31 @@
-use Rattle.std.proofs.Common.{◌<◌, length, arith, sym, ap}
+use Rattle.std.proofs.Common.{sym}
 use Rattle.std.proofs.lemmas.Result.{err_from_is_err_and}
 use Rattle.sql_parser.specs.Grammar.{IsItem}
 use Rattle.sql_parser.specs.Reading.{item_at}
-use Rattle.sql_parser.specs.declared.tokens.Mark.TheVariants as mark
+use Rattle.sql_parser.specs.declared.tokens.Symbol.TheVariants as symbol
 use Rattle.sql_parser.proofs.Lists.{list_start, list_step, err_first}
-use Rattle.sql_parser.proofs.Sound.{item_sound, taken_shorter, begins_shorter}
+use Rattle.sql_parser.proofs.ReadParts.{item_reads, list_shorter}
 use Rattle.sql_parser.proofs.reading.take_items.Goals as goal
 
 pub returns-in_err-first : goal.returns-in_err-first
 returns-in_err-first c =
     let p = err_from_is_err_and c.from_residual.result c.from_residual.ensures.1 in
-    rw (p.1, p.2) (err_first mark.Comma item_at c.args.tokens.now.items c.in_err-first.field-0.0 c.in_err-first.ensures)
+    rw (p.1, p.2) (err_first symbol.Comma item_at c.args.tokens.now.items c.in_err-first.field-0.0 c.in_err-first.ensures)
 
 pub loop-tokens-init : goal.loop-tokens-init
 loop-tokens-init c =
     rw (c.in_ok-push.ensures.items, c.new-items.ensures.items)
-    (list_start mark.Comma item_at c.args.tokens.now.items c.in_ok-first.first c.take_item.new.tokens.items c.in_ok-first.ensures)
+    (list_start symbol.Comma item_at c.args.tokens.now.items c.in_ok-first.first c.take_item.new.tokens.items c.in_ok-first.ensures)
 
 pub loop-tokens-smaller : goal.loop-tokens-smaller
 loop-tokens-smaller c =
-    let s = taken_shorter IsItem c.in_ok-next.next c.accept.new.tokens.items c.take_item-in-loop-tokens.new.tokens.items (item_sound c.accept.new.tokens.items c.in_ok-next.next c.take_item-in-loop-tokens.new.tokens.items c.in_ok-next.ensures) in
-    let b = begins_shorter mark.Comma c.loop-tokens.tokens.items (sym c.loop-tokens-test.ensures.value) in
-    let r = ap length c.loop-tokens-test.ensures.rest in
-    let n : length c.take_item-in-loop-tokens.new.tokens.items < length c.loop-tokens.tokens.items = omega arith in
-    n
+    list_shorter IsItem symbol.Comma c.loop-tokens.tokens.items c.accept.new.tokens.items c.take_item-in-loop-tokens.new.tokens.items item_at c.in_ok-next.next item_reads
+    (sym c.loop-tokens-test.ensures.value) c.loop-tokens-test.ensures.rest c.in_ok-next.ensures
 
 pub loop-tokens-preserved : goal.loop-tokens-preserved
 loop-tokens-preserved c =
-    let s = taken_shorter IsItem c.in_ok-next.next c.accept.new.tokens.items c.take_item-in-loop-tokens.new.tokens.items (item_sound c.accept.new.tokens.items c.in_ok-next.next c.take_item-in-loop-tokens.new.tokens.items c.in_ok-next.ensures) in
-    let b = begins_shorter mark.Comma c.loop-tokens.tokens.items (sym c.loop-tokens-test.ensures.value) in
-    let r = ap length c.loop-tokens-test.ensures.rest in
-    let n : length c.take_item-in-loop-tokens.new.tokens.items < length c.loop-tokens.tokens.items = omega arith in
     rw (c.in_ok-push-2.ensures.items)
-    (list_step mark.Comma item_at c.args.tokens.now.items c.loop-tokens.items.items c.loop-tokens.tokens.items c.in_ok-next.next c.take_item-in-loop-tokens.new.tokens.items
-    c.loop-tokens.invariant (sym c.loop-tokens-test.ensures.value) (rw (c.loop-tokens-test.ensures.rest) at c.in_ok-next.ensures) n)
+    (list_step symbol.Comma item_at c.args.tokens.now.items c.loop-tokens.items.items c.loop-tokens.tokens.items c.in_ok-next.next c.take_item-in-loop-tokens.new.tokens.items
+    c.loop-tokens.invariant (sym c.loop-tokens-test.ensures.value) (rw (c.loop-tokens-test.ensures.rest) at c.in_ok-next.ensures)
+    (list_shorter IsItem symbol.Comma c.loop-tokens.tokens.items c.accept.new.tokens.items c.take_item-in-loop-tokens.new.tokens.items item_at c.in_ok-next.next item_reads
+    (sym c.loop-tokens-test.ensures.value) c.loop-tokens-test.ensures.rest c.in_ok-next.ensures))

@@ -1,12 +1,12 @@
 use Rattle.std.proofs.Common.{length}
 use Rattle.sql_parser.specs.Reading.{operand_at}
-use Rattle.sql_parser.specs.declared.tokens.Mark.TheVariants as mark
+use Rattle.sql_parser.specs.declared.tokens.Symbol.TheVariants as symbol
 use Rattle.sql_parser.proofs.Lists.{InList}
 use Rattle.sql_parser.proofs.reading.take_operands.Given as goal
 
 -- what was read so far, and what is left to read
 abbrev pub invariant-loop-tokens : goal.invariant-loop-tokens
-invariant-loop-tokens l = InList mark.Comma operand_at l.fn.tokens.items l.operands.items l.tokens.items
+invariant-loop-tokens l = InList symbol.Comma operand_at l.fn.tokens.items l.operands.items l.tokens.items
 
 abbrev pub decreases-loop-tokens : goal.decreases-loop-tokens
 decreases-loop-tokens l = length l.tokens.items
