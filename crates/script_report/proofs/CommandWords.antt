@@ -1,14 +1,12 @@
 -- A word that is none of the nine begins no command.
-use Rattle.std.proofs.Common.{ℕ, ◌≡◌, ◌≢◌, List, Bool, true, false, None, codes, refl}
+use Rattle.std.proofs.Common.{ℕ, ◌≡◌, ◌≢◌, List, false, None, codes, refl}
+use Rattle.std.proofs.lemmas.Bool.{false_from_ne_true}
 use Rattle.std.specs.Str.{bytes_eq}
 use Rattle.std.proofs.lemmas.Slice.Eq.{bytes_eq-Decides}
 use Rattle.script_report.specs.Commands.{command_in}
 
 other : (word known : List ℕ) → word ≢ known → bytes_eq word known ≡ false
-other word known n =
-    let step : (v : Bool) → bytes_eq word known ≡ v → v ≡ false =
-    λ v. elim v as (λ v. bytes_eq word known ≡ v → v ≡ false) [ true ↦ λ e. absurd (n ((bytes_eq-Decides word known).0 e)) | false ↦ λ e. refl ]
-    in step (bytes_eq word known) refl
+other word known n = false_from_ne_true (bytes_eq word known) (λ e. n ((bytes_eq-Decides word known).0 e))
 
 pub no_command : (word parts : List ℕ) → word ≢ codes "load" → word ≢ codes "index" → word ≢ codes "prepare" → word ≢ codes "run" → word ≢ codes "cursor" → word ≢ codes "fetch"
     → word ≢ codes "close" → word ≢ codes "evict" → word ≢ codes "show" → command_in word parts ≡ None

@@ -1,4 +1,5 @@
 mod Arguments
 mod Blanks
+mod CanonicalCommands
 mod CommandWords
 mod SaidLines

@@ -1,12 +1,12 @@
 -- What a script line says.
-use Rattle.std.specs.Prelude.{ℕ, zero, suc, ◌^◌, ◌-◌, ◌==◌, ◌&&◌, nat_le, ℤ, pos, negsuc, List, [], ◌∷◌, codes, length, slice_index, reverse, Bool, false, Option, Some, None, if◌then◌else◌}
+use Rattle.std.specs.Prelude.{ℕ, zero, suc, ◌==◌, ◌&&◌, nat_le, ℤ, pos, negsuc, List, [], ◌∷◌, codes, length, slice_index, reverse, Bool, false, Option, Some, None, if◌then◌else◌}
 use Rattle.std.specs.Str.{bytes_eq}
 use Rattle.row_values.specs.Numbers.{whole_number_of}
 use Rattle.row_values.specs.declared.values.Value.{Value}
 use Rattle.sql_parser.specs.Reading.{◌>>=◌}
 use Rattle.sql_parser.specs.Spelled.{statement_of}
 use Rattle.script_report.specs.Parts.{skip_blanks, first_part, after_part, name_part, value_part}
-use Rattle.script_report.specs.declared.commands.TheConstants.{FETCH_LIMIT}
+use Rattle.script_report.specs.declared.commands.TheConstants.{FETCH_LIMIT, PLAN_NUMBER_LIMIT}
 use Rattle.script_report.specs.declared.commands.Command.{Command}
 use Rattle.script_report.specs.declared.commands.Command.TheVariants as command
 
@@ -108,7 +108,7 @@ close_in parts = do
 abbrev pub evict_in : List ℕ → Option Command
 evict_in parts = do
   name ← name_part parts
-  plan ← count_in (2 ^ 63 - 1) name.1
+  plan ← count_in PLAN_NUMBER_LIMIT name.1
   Some (command.Evict name.0 plan)
 
 -- `show NAME`

@@ -1,3 +1,4 @@
+pub mod Canonical
 pub mod Commands
 pub mod Parts
 pub mod Replies

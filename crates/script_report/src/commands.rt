@@ -15,7 +15,7 @@ use std::alloc::Global;
 pub const FETCH_LIMIT: u32 = 1000000;
 
 /// The greatest number of a plan: such numbers have 63 bits.
-const PLAN_NUMBER_LIMIT: u64 = 9223372036854775807;
+pub const PLAN_NUMBER_LIMIT: u64 = 9223372036854775807;
 
 /// What a line asks for.
 #[derive(Debug, Drop)]

@@ -6,6 +6,7 @@
 #![tactic(auto)]
 
 mod commands;
+pub mod laws;
 mod parts;
 mod replies;
 #[cfg(test)]
