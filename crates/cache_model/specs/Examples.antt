@@ -1,7 +1,7 @@
 -- Worked by computation: caches of small statements over a thousand rows, with an index on each column.
 use Rattle.std.specs.Prelude.{ℕ, ◌≡◌, ◌*◌, ◌-◌, ◌^◌, false, List, [], ◌∷◌, codes, map, replicate, Some, refl}
 use Rattle.fraction_math.specs.Fraction.{Fraction}
-use Rattle.row_values.specs.Statements.{Statement, statement_of}
+use Rattle.row_values.specs.Statements.{Statement, statement_with}
 use Rattle.row_values.specs.declared.columns.Column.{Column}
 use Rattle.row_values.specs.declared.statement.Item.TheVariants as item
 use Rattle.row_values.specs.declared.statement.Operand.TheVariants as operand
@@ -31,7 +31,7 @@ below column parameter = record { at = column_of 0 column; test = test.Lt (opera
 
 abbrev over_table : List Column → List Pred → Statement
 over_table columns preds =
-    statement_of (record { table = codes "t"; alias = codes "t"; schema = columns } ∷ []) preds [] (item.Column (column_of 0 0) ∷ []) [] []
+    statement_with (record { table = codes "t"; alias = codes "t"; schema = columns } ∷ []) preds [] (item.Column (column_of 0 0) ∷ []) [] []
 
 abbrev optimum_of : ℕ → List ℕ → TopTree → ℕ → Optimum
 optimum_of execution at top least = record { execution = execution; at = at; top = top; least = least * COST_SCALE }

@@ -3,16 +3,12 @@ use Rattle.std.proofs.Common.{ℕ, zero, suc, ◌≡◌, ◌≤◌, ◌<◌, ◌
 use Rattle.std.specs.Option.{option_map, option_map_or}
 use Rattle.std.proofs.lemmas.Bool.{cases_lt}
 use Rattle.std.proofs.lemmas.List.{get_or_past}
-use Rattle.std.proofs.lemmas.List.Elements.{All-head}
 use Rattle.std.proofs.lemmas.Option.{slice_get-get_or}
-use Rattle.row_values.specs.Statements.{Statement, IsSoundQuery, IsPred, IsTest, IsOperand, kind_at, is_parameterised, selectivity_count}
+use Rattle.row_values.proofs.Fitting.{test_there}
+use Rattle.row_values.specs.Statements.{Statement, IsSoundQuery, IsPred, kind_at, is_parameterised, selectivity_count}
 use Rattle.row_values.specs.declared.statement.ColRef.{ColRef}
-use Rattle.row_values.specs.declared.statement.Operand.{Operand}
-use Rattle.row_values.specs.declared.statement.Operand.TheVariants.{Literal, Param}
 use Rattle.row_values.specs.declared.statement.Place.{Place}
 use Rattle.row_values.specs.declared.statement.Pred.{Pred}
-use Rattle.row_values.specs.declared.statement.Test.{Test}
-use Rattle.row_values.specs.declared.statement.Test.TheVariants.{Lt, Le, Gt, Ge, Eq, Between, OneOf}
 use Rattle.row_values.specs.declared.values.Kind.{Kind}
 use Rattle.plan_trees.specs.PlanSpace.{column_of}
 use Rattle.plan_trees.specs.Statistics.{Statistics, IsWithin, AreWeights, IsSoundStats, IsSoundVector, fan_at, selectivities_on, selectivity_places, weighted_size}
@@ -53,23 +49,6 @@ one_each_by false t n on e = omega arith
 pub places_counted : (preds : List Pred) → length (selectivity_places preds) ≡ selectivity_count preds
 places_counted [] = refl
 places_counted (pred ∷ preds) = one_each_by (is_parameterised pred) pred.at.place (selectivity_count preds) (selectivity_places preds) (places_counted preds)
-
-operand_there : (left : Option Kind) (operand : Operand) → IsOperand left operand → IsSome left
-operand_there left (Literal value) h = rw h refl
-operand_there left (Param number) h = h
-
-first_there : (left : Option Kind) (operands : List Operand) → 0 < length operands → All (IsOperand left) operands → IsSome left
-first_there left [] some h = absurd (omega (arith, some))
-first_there left (operand ∷ operands) some h = operand_there left operand (All-head (IsOperand left) operand operands h)
-
-test_there : (left : Option Kind) (test : Test) → IsTest left test → IsSome left
-test_there left (Lt a) h = operand_there left a h
-test_there left (Le a) h = operand_there left a h
-test_there left (Gt a) h = operand_there left a h
-test_there left (Ge a) h = operand_there left a h
-test_there left (Eq a) h = operand_there left a h
-test_there left (Between a b) h = operand_there left a h.0
-test_there left (OneOf operands) h = first_there left operands h.0.some h.1
 
 there_by : (b : Bool) (t i limit : ℕ) (on : List ℕ) → t < limit → ((i : ℕ) → i < length on → slice_index on i < limit) → i < length (if b then t ∷ on else on) → slice_index (if b then t ∷ on else on) i < limit
 there_by false t i limit on first rest less = rest i less

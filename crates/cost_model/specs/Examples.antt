@@ -4,7 +4,7 @@ use Rattle.std.specs.Prelude.{ℕ, zero, suc, ◌≡◌, ◌+◌, ◌*◌, ◌-�
 use Rattle.std.specs.Option.{option_map_or}
 use Rattle.std.specs.Fmt.{digits as decimal_digits}
 use Rattle.std.proofs.Common.{sym, true≢false, arith}
-use Rattle.row_values.specs.Statements.{Statement, statement_of}
+use Rattle.row_values.specs.Statements.{Statement, statement_with}
 use Rattle.row_values.specs.declared.statement.Edge.{Edge}
 use Rattle.row_values.specs.declared.statement.Item.TheVariants as item
 use Rattle.row_values.specs.declared.statement.Operand.TheVariants as operand
@@ -39,7 +39,7 @@ edge_of left left_column right right_column = record { left = column_of left lef
 
 three_places : Statement
 three_places =
-    statement_of (table_of (codes "a") (codes "x" ∷ codes "y" ∷ []) ∷ table_of (codes "b") (codes "x" ∷ codes "z" ∷ []) ∷ table_of (codes "c") (codes "y" ∷ codes "z" ∷ []) ∷ [])
+    statement_with (table_of (codes "a") (codes "x" ∷ codes "y" ∷ []) ∷ table_of (codes "b") (codes "x" ∷ codes "z" ∷ []) ∷ table_of (codes "c") (codes "y" ∷ codes "z" ∷ []) ∷ [])
     [] (edge_of 0 0 1 0 ∷ edge_of 0 1 2 0 ∷ edge_of 1 1 2 1 ∷ []) (item.Column (column_of 0 0) ∷ []) [] []
 
 three_tables : Statistics
@@ -145,7 +145,7 @@ cells = refl
 
 four_places : Statement
 four_places =
-    statement_of (table_of (codes "a") (codes "x" ∷ []) ∷ table_of (codes "b") (codes "x" ∷ codes "m" ∷ []) ∷ table_of (codes "c") (codes "m" ∷ codes "y" ∷ []) ∷ table_of (codes "d") (codes "y" ∷ []) ∷ [])
+    statement_with (table_of (codes "a") (codes "x" ∷ []) ∷ table_of (codes "b") (codes "x" ∷ codes "m" ∷ []) ∷ table_of (codes "c") (codes "m" ∷ codes "y" ∷ []) ∷ table_of (codes "d") (codes "y" ∷ []) ∷ [])
     [] (edge_of 0 0 1 0 ∷ edge_of 1 1 2 0 ∷ edge_of 2 1 3 0 ∷ []) (item.Column (column_of 0 0) ∷ []) [] []
 
 four_tables : Statistics
@@ -220,7 +220,7 @@ least_costs = refl
 
 orders : Statement
 orders =
-    statement_of (table_of (codes "c") (codes "id" ∷ codes "name" ∷ []) ∷ table_of (codes "o") (codes "customer" ∷ codes "total" ∷ []) ∷ [])
+    statement_with (table_of (codes "c") (codes "id" ∷ codes "name" ∷ []) ∷ table_of (codes "o") (codes "customer" ∷ codes "total" ∷ []) ∷ [])
     (record { at = column_of 1 1; test = test.Gt (operand.Param 0) } ∷ []) (edge_of 0 0 1 0 ∷ []) (item.Column (column_of 1 1) ∷ []) [] []
 
 shop : Statistics
@@ -253,7 +253,7 @@ few_orders = refl
 
 in_order : Statement
 in_order =
-    statement_of (table_of (codes "t") (codes "v" ∷ codes "w" ∷ []) ∷ []) (record { at = column_of 0 1; test = test.Lt (operand.Param 0) } ∷ []) []
+    statement_with (table_of (codes "t") (codes "v" ∷ codes "w" ∷ []) ∷ []) (record { at = column_of 0 1; test = test.Lt (operand.Param 0) } ∷ []) []
     (item.Column (column_of 0 0) ∷ []) [] (ascending (column_of 0 0) ∷ [])
 
 thousand_rows : Statistics

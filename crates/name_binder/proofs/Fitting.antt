@@ -1,6 +1,6 @@
 -- Operands that a column takes, and predicates and edges that no misfit is among.
-use Rattle.std.proofs.Common.{ℕ, ◌≡◌, ◌<◌, ◌+◌, ◌==◌, nat_lt, List, [], ◌∷◌, length, Bool, true, false, not, ◌||◌, Option, Some, None, IsSome, refl, arith}
-use Rattle.std.specs.List.{All, find, flat_map}
+use Rattle.std.proofs.Common.{ℕ, ◌≡◌, ◌<◌, ◌+◌, ◌==◌, nat_lt, List, [], ◌∷◌, length, Bool, true, false, not, ◌||◌, Option, Some, None, IsSome, refl, arith, sym, subst}
+use Rattle.std.specs.List.{All, find, flat_map, list_all}
 use Rattle.std.proofs.lemmas.Bool.{eqb-false, ltb-false}
 use Rattle.std.proofs.lemmas.List.Elements.{All-cons, All-nil}
 use Rattle.row_values.specs.Values.{kind_of}
@@ -9,6 +9,7 @@ use Rattle.row_values.specs.Statements.{IsOperand, IsTest, IsPred, IsEdge}
 use Rattle.row_values.specs.declared.operands.TheConstants.{OPERAND_LIMIT}
 use Rattle.row_values.specs.declared.values.Kind.{Kind}
 use Rattle.row_values.specs.declared.values.Kind.TheVariants.{Int, Text}
+use Rattle.row_values.specs.declared.statement.Operand.{Operand}
 use Rattle.row_values.specs.declared.statement.Place.{Place}
 use Rattle.sql_parser.specs.Statement.{each, is_some, is_ref, is_operand, is_test, is_cond}
 use Rattle.sql_parser.specs.declared.statement.RawRef.{RawRef}
@@ -19,11 +20,12 @@ use Rattle.sql_parser.specs.declared.statement.RawTest.TheVariants.{Lt, Le, Gt, 
 use Rattle.sql_parser.specs.declared.statement.RawCond.{RawCond}
 use Rattle.sql_parser.specs.declared.statement.RawCond.TheVariants.{Test, Same}
 use Rattle.name_binder.specs.References.{place_number, meant, kind_meant, is_unknown, cond_refs}
-use Rattle.name_binder.specs.Parameters.{operand_count, test_count}
-use Rattle.name_binder.specs.Refusals.{are_one_kind, takes_operand, takes_all, takes_test, is_misfit, is_long, has_long}
-use Rattle.name_binder.specs.Binding.{operand_from, operands_from, test_from, preds_from, edges_of}
+use Rattle.name_binder.specs.Parameters.{operands_of, test_count}
+use Rattle.name_binder.specs.Refusals.{are_one_kind, takes_operand, takes_test, is_misfit, is_long, has_long}
+use Rattle.name_binder.specs.Binding.{operand_from, next_number, operands_from, test_from, preds_from, edges_of}
 use Rattle.name_binder.proofs.Known.{known_column, both_left, both_right}
 use Rattle.name_binder.proofs.Found.{split_none}
+use Rattle.name_binder.proofs.Operands.{from_operands}
 
 pub one_kind : (a b : Option Kind) → are_one_kind a b ≡ true → a ≡ b
 one_kind None b h = cc
@@ -42,36 +44,41 @@ operand_fits : (left : Option Kind) (n : ℕ) (a : RawOperand) → IsSome left �
 operand_fits left n (Literal value) there h = one_kind left (Some (kind_of value)) h
 operand_fits left n Param there h = there
 
-operands_fit : (left : Option Kind) (n : ℕ) (operands : List RawOperand) → IsSome left → takes_all left operands ≡ true → All (IsOperand left) (operands_from n operands)
+operands_fit : (left : Option Kind) (n : ℕ) (operands : List RawOperand) → IsSome left
+    → list_all (takes_operand left) operands ≡ true → All (IsOperand left) (operands_from n operands)
 operands_fit left n [] there h = All-nil _
 operands_fit left n (a ∷ operands) there h =
-    All-cons (IsOperand left) _ _ (operand_fits left n a there (both_left (takes_operand left a) (takes_all left operands) h))
-    (operands_fit left (n + operand_count a) operands there (both_right (takes_operand left a) (takes_all left operands) h))
+    All-cons (IsOperand left) _ _ (operand_fits left n a there (both_left (takes_operand left a) (list_all (takes_operand left) operands) h))
+    (operands_fit left (next_number n a) operands there (both_right (takes_operand left a) (list_all (takes_operand left) operands) h))
 
 operands_length : (n : ℕ) (operands : List RawOperand) → length (operands_from n operands) ≡ length operands
 operands_length n [] = refl
-operands_length n (a ∷ operands) = omega (arith, operands_length (n + operand_count a) operands)
+operands_length n (a ∷ operands) = omega (arith, operands_length (next_number n a) operands)
 
-pub are_operands : (n : ℕ) (operands : List RawOperand) → 0 < length operands → nat_lt OPERAND_LIMIT (length operands) ≡ false → AreOperands (operands_from n operands)
+pub are_operands : (n : ℕ) (operands : List RawOperand) → 0 < length operands → nat_lt OPERAND_LIMIT (length operands) ≡ false
+    → AreOperands (operands_from n operands)
 are_operands n operands some few =
     let same = operands_length n operands in
     record { some = omega (arith, same, some); few = omega (arith, same, ltb-false OPERAND_LIMIT (length operands) few) }
 
-some_operand : (operands : List RawOperand) → is_some operands ≡ true → 0 < length operands
-some_operand [] h = absurd cc
-some_operand (a ∷ operands) h = omega arith
+first_operand : (operands : List RawOperand) → is_some operands ≡ true → 0 < length operands
+first_operand [] h = absurd cc
+first_operand (a ∷ operands) h = omega arith
 
-test_fits : (left : Option Kind) (n : ℕ) (t : RawTest) → IsSome left → takes_test left t ≡ true → is_test t ≡ true → is_long t ≡ false → IsTest left (test_from n t)
-test_fits left n (Lt a) there h spelled short = operand_fits left n a there h
-test_fits left n (Le a) there h spelled short = operand_fits left n a there h
-test_fits left n (Gt a) there h spelled short = operand_fits left n a there h
-test_fits left n (Ge a) there h spelled short = operand_fits left n a there h
-test_fits left n (Eq a) there h spelled short = operand_fits left n a there h
-test_fits left n (OneOf operands) there h spelled short = (are_operands n operands (some_operand operands (both_left (is_some operands) (each is_operand operands) spelled)) short, operands_fit left n operands there h)
-test_fits left n (Between a b) there h spelled short = (
-  operand_fits left n a there (both_left (takes_operand left a) (takes_operand left b) h),
-  operand_fits left (n + operand_count a) b there (both_right (takes_operand left a) (takes_operand left b) h),
-)
+some_operand : (t : RawTest) → is_test t ≡ true → 0 < length (operands_of t)
+some_operand (Lt a) h = omega arith
+some_operand (Le a) h = omega arith
+some_operand (Gt a) h = omega arith
+some_operand (Ge a) h = omega arith
+some_operand (Eq a) h = omega arith
+some_operand (Between a b) h = omega arith
+some_operand (OneOf operands) h = first_operand operands (both_left (is_some operands) (each is_operand operands) h)
+
+test_fits : (left : Option Kind) (n : ℕ) (t : RawTest) → IsSome left → takes_test left t ≡ true → is_test t ≡ true → is_long t ≡ false
+    → IsTest left (test_from n t)
+test_fits left n t there h spelled short =
+    subst (λ (operands : List Operand). AreOperands operands × All (IsOperand left) operands) (sym (from_operands n t))
+    (are_operands n (operands_of t) (some_operand t spelled) short, operands_fit left n (operands_of t) there h)
 
 either_false : (a b : Bool) → (a || b) ≡ false → (a ≡ false) × (b ≡ false)
 either_false true b h = cc

@@ -4,4 +4,5 @@ mod Fitting
 mod Found
 mod Known
 mod Numbered
+pub mod Operands
 mod Sound

@@ -5,7 +5,7 @@ use Rattle.std.specs.List.{All, find, flat_map, filter_map}
 use Rattle.std.proofs.lemmas.Bool.{ltb-false}
 use Rattle.std.proofs.lemmas.List.{length-map}
 use Rattle.std.proofs.lemmas.List.Elements.{All-cons, All-nil}
-use Rattle.row_values.specs.Statements.{IsSoundQuery, IsColumn, IsItem, AreGrouped, is_plain, is_grouped_item, is_among}
+use Rattle.row_values.specs.Statements.{IsSoundQuery, IsColumn, IsItem, AreGrouped, is_column_item, is_grouped_item, is_among}
 use Rattle.row_values.specs.declared.statement.TheConstants.{PLACE_LIMIT, SELECTIVITY_LIMIT, CONDITION_LIMIT, ITEM_LIMIT, KEY_LIMIT}
 use Rattle.row_values.specs.declared.values.Kind.{Kind}
 use Rattle.row_values.specs.declared.values.Kind.TheVariants.{Int, Text}
@@ -101,7 +101,7 @@ keys_fit places (key ∷ order) known =
 groups_fit : (groups : List ColRef) (places : List Place) (items : List RawItem) (order : List RawKey) → first_ungrouped_item groups places items ≡ None
     → first_ungrouped_key groups places order ≡ None → AreGrouped groups (map (bound_item places) items) (map (bound_key places) order)
 groups_fit [] places items order no_item no_key =
-    all_mapped (λ i. is_ungrouped_item [] (bound_item places i)) (bound_item places) (λ i. IsTrue (is_plain i)) items (λ i h. not_false _ h) no_item
+    all_mapped (λ i. is_ungrouped_item [] (bound_item places i)) (bound_item places) (λ i. IsTrue (is_column_item i)) items (λ i h. not_false _ h) no_item
 groups_fit (group ∷ groups) places items order no_item no_key = (
   all_mapped (λ i. is_ungrouped_item (group ∷ groups) (bound_item places i)) (bound_item places) (λ i. IsTrue (is_grouped_item (group ∷ groups) i)) items
       (λ i h. not_false _ h) no_item,

@@ -23,7 +23,7 @@ use Rattle.name_binder.specs.declared.faults.BindFault.{BindFault}
 use Rattle.name_binder.specs.declared.faults.BindFault.TheVariants.{UnknownTable, AliasTwice, UnknownColumn, Ambiguous, Misfit, TooMany, NotGrouped, SumOfText, Memory}
 use Rattle.name_binder.specs.Catalog.{Known}
 use Rattle.name_binder.specs.References.{places_of, meant}
-use Rattle.name_binder.specs.Parameters.{operand_count, test_count}
+use Rattle.name_binder.specs.Parameters.{test_count}
 use Rattle.name_binder.specs.Refusals.{first_unknown_table, first_repeated_alias, first_unknown_column, first_ambiguous, first_misfit, first_excess, first_ungrouped, first_sum_of_text, bound_item, bound_groups}
 use Rattle.row_values.specs.Names.{canonical_name}
 use Rattle.name_binder.specs.Spelling.{ref_text}
@@ -68,10 +68,15 @@ abbrev pub operand_from : ℕ → RawOperand → Operand
 operand_from next (Literal value) = operand.Literal value
 operand_from next Param = operand.Param next
 
+-- the number of the next parameter, behind this operand
+abbrev pub next_number : ℕ → RawOperand → ℕ
+next_number next (Literal value) = next
+next_number next Param = next + 1
+
 -- operands whose parameters have the numbers from this one on
 abbrev pub operands_from : ℕ → List RawOperand → List Operand
 operands_from next [] = []
-operands_from next (a ∷ operands) = operand_from next a ∷ operands_from (next + operand_count a) operands
+operands_from next (a ∷ operands) = operand_from next a ∷ operands_from (next_number next a) operands
 
 -- a test whose parameters have the numbers from this one on
 abbrev pub test_from : ℕ → RawTest → Test
@@ -80,7 +85,7 @@ test_from next (Le a) = test.Le (operand_from next a)
 test_from next (Gt a) = test.Gt (operand_from next a)
 test_from next (Ge a) = test.Ge (operand_from next a)
 test_from next (Eq a) = test.Eq (operand_from next a)
-test_from next (Between a b) = test.Between (operand_from next a) (operand_from (next + operand_count a) b)
+test_from next (Between a b) = test.Between (operand_from next a) (operand_from (next_number next a) b)
 test_from next (OneOf operands) = test.OneOf (operands_from next operands)
 
 -- the predicates, their parameters numbered from this one on

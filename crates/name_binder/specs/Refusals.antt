@@ -1,9 +1,10 @@
 -- The refusals of a statement: each a plain fact on its parts and the tables, with what it shows.
 use Rattle.std.specs.Prelude.{ℕ, ◌==◌, nat_lt, List, [], ◌∷◌, ◌++◌, length, map, find, codes, Bool, true, false, not, ◌&&◌, ◌||◌, if◌then◌else◌, Option, Some, None, is_none}
+use Rattle.std.specs.List.{list_all, list_any}
 use Rattle.std.specs.Option.{option_map, option_or, option_and_then}
 use Rattle.std.specs.Str.{bytes_eq}
 use Rattle.row_values.specs.Values.{kind_of}
-use Rattle.row_values.specs.Statements.{is_among, is_grouped_item, is_plain}
+use Rattle.row_values.specs.Statements.{is_among, is_grouped_item, is_column_item}
 use Rattle.row_values.specs.declared.operands.TheConstants.{OPERAND_LIMIT}
 use Rattle.row_values.specs.declared.statement.TheConstants.{PLACE_LIMIT, SELECTIVITY_LIMIT, CONDITION_LIMIT, ITEM_LIMIT, KEY_LIMIT}
 use Rattle.row_values.specs.declared.values.Kind.{Kind}
@@ -20,13 +21,12 @@ use Rattle.sql_parser.specs.declared.statement.RawItem.TheVariants as item
 use Rattle.sql_parser.specs.declared.statement.RawOperand.{RawOperand}
 use Rattle.sql_parser.specs.declared.statement.RawOperand.TheVariants.{Literal, Param}
 use Rattle.sql_parser.specs.declared.statement.RawTest.{RawTest}
-use Rattle.sql_parser.specs.declared.statement.RawTest.TheVariants.{Lt, Le, Gt, Ge, Eq, Between, OneOf}
 use Rattle.sql_parser.specs.declared.statement.RawCond.{RawCond}
 use Rattle.sql_parser.specs.declared.statement.RawCond.TheVariants as cond
 use Rattle.sql_parser.specs.declared.statement.RawKey.{RawKey}
 use Rattle.name_binder.specs.Catalog.{Known, schema_named}
 use Rattle.name_binder.specs.References.{place_number, meant, kind_meant, is_unknown, is_ambiguous, item_ref, refs_of}
-use Rattle.name_binder.specs.Parameters.{parameterised_count}
+use Rattle.name_binder.specs.Parameters.{operands_of, parameterised_count}
 use Rattle.name_binder.specs.Spelling.{ref_text, item_text}
 
 -- the first table that isn't known
@@ -67,18 +67,8 @@ abbrev pub takes_operand : Option Kind → RawOperand → Bool
 takes_operand left (Literal value) = are_one_kind left (Some (kind_of value))
 takes_operand left Param = true
 
-abbrev pub takes_all : Option Kind → List RawOperand → Bool
-takes_all left [] = true
-takes_all left (a ∷ operands) = takes_operand left a && takes_all left operands
-
 abbrev pub takes_test : Option Kind → RawTest → Bool
-takes_test left (Lt a) = takes_operand left a
-takes_test left (Le a) = takes_operand left a
-takes_test left (Gt a) = takes_operand left a
-takes_test left (Ge a) = takes_operand left a
-takes_test left (Eq a) = takes_operand left a
-takes_test left (Between a b) = takes_operand left a && takes_operand left b
-takes_test left (OneOf operands) = takes_all left operands
+takes_test left test = list_all (takes_operand left) (operands_of test)
 
 -- a literal of another kind than its column; or two columns of one place, or of two kinds
 abbrev pub is_misfit : List Place → RawCond → Bool
@@ -96,13 +86,7 @@ first_misfit places conds = option_map left_of (find (is_misfit places) conds)
 
 -- whether a test is an IN of more operands than one may have
 abbrev pub is_long : RawTest → Bool
-is_long (Lt a) = false
-is_long (Le a) = false
-is_long (Gt a) = false
-is_long (Ge a) = false
-is_long (Eq a) = false
-is_long (Between a b) = false
-is_long (OneOf operands) = nat_lt OPERAND_LIMIT (length operands)
+is_long test = nat_lt OPERAND_LIMIT (length (operands_of test))
 
 abbrev pub is_long_cond : RawCond → Bool
 is_long_cond (cond.Test r test) = is_long test
@@ -110,8 +94,7 @@ is_long_cond (cond.Same a b) = false
 
 -- whether such an IN is among the conditions
 abbrev pub has_long : List RawCond → Bool
-has_long [] = false
-has_long (condition ∷ conditions) = is_long_cond condition || has_long conditions
+has_long conditions = list_any is_long_cond conditions
 
 -- which limit the statement passes
 abbrev pub first_excess : Parts → Option (List ℕ)
@@ -137,7 +120,7 @@ bound_groups places groups = map (meant places) groups
 
 -- With GROUP BY, an item that is neither an aggregate nor one of its columns; without it, an aggregate.
 abbrev pub is_ungrouped_item : List ColRef → Item → Bool
-is_ungrouped_item [] i = not (is_plain i)
+is_ungrouped_item [] i = not (is_column_item i)
 is_ungrouped_item (group ∷ groups) i = not (is_grouped_item (group ∷ groups) i)
 
 -- with GROUP BY, a key that isn't one of its columns

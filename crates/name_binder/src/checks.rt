@@ -3,13 +3,14 @@
 //!
 //! Each `first_..` gives the first case in text order, and takes no memory.
 ghost use Rattle.std.specs.Prelude.{◌≡◌, ◌≤◌, length};
+ghost use Rattle.std.specs.List.{list_all};
 ghost use Rattle.std.specs.Option.{option_map};
-ghost use Rattle.row_values.specs.Statements.{is_among};
 ghost use Rattle.name_binder.specs.Refusals as refusals;
 
 use crate::parts::{bound_item, col_ref};
+use crate::raw_operands::operands;
 use crate::references::{item_ref, kind_meant, meant};
-use row_values::{ColRef, Item, Kind, PLACE_LIMIT, Place};
+use row_values::{ColRef, Item, Kind, PLACE_LIMIT, Place, has_group};
 use sql_parser::{RawCond, RawItem, RawKey, RawOperand, RawRef, RawTest};
 
 /// Whether both kinds are there and are one.
@@ -35,29 +36,17 @@ fn takes_operand(left: Option<Kind>, operand: &RawOperand) -> bool
 
 /// Whether a column of this kind can be compared with each of the operands.
 fn takes_all(left: Option<Kind>, operands: &[RawOperand]) -> bool
-    ensures { result ≡ refusals.takes_all left operands.now }
+    ensures { result ≡ list_all (refusals.takes_operand left) operands.now }
 {
-    for operand in operands {
-        if !takes_operand(left, operand) {
-            return false;
-        }
-    }
-    true
+    operands.iter().all(|operand| takes_operand(left, operand))
 }
 
 /// Whether a column of this kind can be tested so.
 fn takes_test(left: Option<Kind>, test: &RawTest) -> bool
     ensures { result ≡ refusals.takes_test left test.now }
 {
-    match test {
-        RawTest::Lt(a) => takes_operand(left, a),
-        RawTest::Le(a) => takes_operand(left, a),
-        RawTest::Gt(a) => takes_operand(left, a),
-        RawTest::Ge(a) => takes_operand(left, a),
-        RawTest::Eq(a) => takes_operand(left, a),
-        RawTest::Between(a, b) => takes_operand(left, a) && takes_operand(left, b),
-        RawTest::OneOf(operands) => takes_all(left, operands.as_slice()),
-    }
+    let (front, back) = operands(test);
+    takes_all(left, front) && takes_all(left, back)
 }
 
 /// Whether the two columns are of one place or of two kinds.
@@ -98,18 +87,6 @@ pub fn first_misfit<'a>(places: &[Place], conds: &'a [RawCond]) -> Option<&'a Ra
         }
     }
     None
-}
-
-/// Whether the column is one of the GROUP BY columns.
-fn has_group(groups: &[ColRef], at: ColRef) -> bool
-    ensures { result ≡ is_among groups.now at }
-{
-    for group in groups {
-        if group.place == at.place && group.column == at.column {
-            return true;
-        }
-    }
-    false
 }
 
 /// Whether the grouping doesn't allow the item.

@@ -12,6 +12,7 @@ mod faults;
 mod limits;
 mod parts;
 mod places;
+mod raw_operands;
 mod references;
 mod spelling;
 

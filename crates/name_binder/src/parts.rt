@@ -2,13 +2,13 @@
 //!
 //! All calls are for statements within the limits: few places, few parameterised predicates, and few operands in
 //! each IN.
-ghost use Rattle.std.specs.Prelude.{◌≡◌, ◌≤◌, false, length, IfOk, map};
+ghost use Rattle.std.specs.Prelude.{◌≡◌, ◌≤◌, ◌<◌, ◌+◌, false, length, IfOk, map};
 ghost use Rattle.name_binder.specs.References as names;
 ghost use Rattle.name_binder.specs.Parameters.{parameterised_count};
 ghost use Rattle.name_binder.specs.Refusals as refusals;
 ghost use Rattle.name_binder.specs.Binding as binding;
 
-use crate::limits::{operand_count, test_count};
+use crate::raw_operands::{is_parameter, test_count};
 use crate::references::meant;
 use row_values::{
     ColRef, Edge, Item, OPERAND_LIMIT, Operand, Operands, OrderKey, OutOfMemory, PLACE_LIMIT,
@@ -115,6 +115,19 @@ pub fn bound_edges(
     Ok(edges)
 }
 
+/// The number of the next parameter, behind this operand.
+fn next_number(next: u8, operand: &RawOperand) -> u8
+    requires { next < 255 }
+    ensures value { result ≡ binding.next_number next operand.now }
+    ensures bound { result ≤ next + 1 }
+{
+    if is_parameter(operand) {
+        next + 1
+    } else {
+        next
+    }
+}
+
 /// The operand, a parameter with this number.
 fn operand_from(alloc: Global, next: u8, operand: &RawOperand) -> Result<Operand, OutOfMemory>
     ensures { IfOk result (λ bound. bound ≡ binding.operand_from next operand.now) }
@@ -139,7 +152,7 @@ fn operands_from(
     let mut next = first;
     for operand in operands {
         bound.push(operand_from(alloc, next, operand)?)?;
-        next += operand_count(operand);
+        next = next_number(next, operand);
     }
     Ok(bound)
 }
@@ -171,7 +184,7 @@ fn test_from(alloc: Global, next: u8, test: &RawTest) -> Result<Test, OutOfMemor
         RawTest::Eq(a) => Test::Eq(operand_from(alloc, next, a)?),
         RawTest::Between(a, b) => Test::Between(
             operand_from(alloc, next, a)?,
-            operand_from(alloc, next + operand_count(a), b)?,
+            operand_from(alloc, next_number(next, a), b)?,
         ),
         RawTest::OneOf(operands) => one_of(alloc, next, operands)?,
     };

@@ -3,14 +3,13 @@
 //! Weights are below 2^16, row counts below 2^64 and digits at most 64, so no unit passes 128 bits.
 ghost use Rattle.std.specs.Prelude.{◌≡◌, ◌<◌, ◌^◌, ◌*◌, false, length, slice_get, slice_index};
 ghost use Rattle.std.specs.Option.{option_map_or};
-ghost use Rattle.row_values.specs.Statements.{is_parameterised as is_parameterised_pred, selectivity_count};
+ghost use Rattle.row_values.specs.Statements.{is_parameterised, selectivity_count};
 ghost use Rattle.plan_trees.specs.PlanSpace.{IsValidAccess};
 ghost use Rattle.plan_trees.specs.Statistics.{IsSoundStats, IsSoundVector};
 ghost use Rattle.cost_model.specs.Costs as costs;
 
-use crate::cardinalities::is_parameterised;
 use plan_trees::{Access, Stats};
-use row_values::{Pred, Query};
+use row_values::{Query, is_parameterised, selectivity_count};
 
 /// How many binary digits the number has.
 pub(crate) fn digits(number: u64) -> u32
@@ -19,22 +18,9 @@ pub(crate) fn digits(number: u64) -> u32
     u64::BITS - number.leading_zeros()
 }
 
-/// How many of the predicates are parameterised.
-pub(crate) fn count_selectivities(preds: &[Pred]) -> usize
-    ensures { result ≡ selectivity_count preds.now }
-{
-    let mut count = 0;
-    for pred in preds {
-        if is_parameterised(pred) {
-            count += 1;
-        }
-    }
-    count
-}
-
 /// Whether the predicate of this number is parameterised.
 pub(crate) fn is_selected(q: &Query, pred: u8) -> bool
-    ensures { result ≡ option_map_or is_parameterised_pred (slice_get q.now.preds pred) false }
+    ensures { result ≡ option_map_or is_parameterised (slice_get q.now.preds pred) false }
 {
     match q.preds().get(usize::from(pred)) {
         Some(there) => is_parameterised(there),
@@ -50,7 +36,7 @@ fn rows_met(q: &Query, stats: &Stats, pred: u8, s: &[u64]) -> u64
     ensures { result ≡ costs.rows_met q.now stats.now s.now pred }
 {
     if is_selected(q, pred) {
-        s[count_selectivities(&q.preds()[..usize::from(pred)])]
+        s[selectivity_count(&q.preds()[..usize::from(pred)])]
     } else {
         stats.matching(pred)
     }

@@ -4,50 +4,13 @@
 //! is as if their product divided at once.
 ghost use Rattle.std.specs.Prelude.{ℕ, ◌≡◌, ◌==◌, ◌&&◌, if◌then◌else◌, not, ◌<◌, ◌≤◌, ◌^◌, All, length, map, slice_index};
 ghost use Rattle.std.specs.Int.{div_ceil};
-ghost use Rattle.row_values.specs.Statements.{is_parameterised as is_parameterised_pred, operand_parameters, operands_parameters, selectivity_count};
+ghost use Rattle.row_values.specs.Statements.{is_parameterised, selectivity_count};
 ghost use Rattle.plan_trees.specs.PlaceSets.{has};
 ghost use Rattle.plan_trees.specs.Statistics.{IsSoundStats, IsSoundVector, selectivity_places};
 ghost use Rattle.cost_model.specs.Cardinalities.{card_of, is_inside, kappa, marked_product, product_over};
 
 use plan_trees::{COST_SCALE, Stats, has_place};
-use row_values::{Edge, Operand, Pred, Query, Test};
-
-/// Whether the operand is a parameter.
-fn is_parameter(operand: &Operand) -> bool
-    ensures { result ≡ not (length (operand_parameters operand.now) == 0) }
-{
-    match operand {
-        Operand::Literal(_) => false,
-        Operand::Param(_) => true,
-    }
-}
-
-/// Whether one of the operands is a parameter.
-fn has_parameter(operands: &[Operand]) -> bool
-    ensures { result ≡ not (length (operands_parameters operands.now) == 0) }
-{
-    for operand in operands {
-        if is_parameter(operand) {
-            return true;
-        }
-    }
-    false
-}
-
-/// Whether some operand of the predicate is a parameter.
-pub(crate) fn is_parameterised(pred: &Pred) -> bool
-    ensures { result ≡ is_parameterised_pred pred.now }
-{
-    match &pred.test {
-        Test::Lt(a) => is_parameter(a),
-        Test::Le(a) => is_parameter(a),
-        Test::Gt(a) => is_parameter(a),
-        Test::Ge(a) => is_parameter(a),
-        Test::Eq(a) => is_parameter(a),
-        Test::Between(a, b) => is_parameter(a) || is_parameter(b),
-        Test::OneOf(operands) => has_parameter(operands.as_slice()),
-    }
-}
+use row_values::{Edge, Pred, Query, is_parameterised};
 
 /// The rows that meet the fixed predicates on the place, if it is in the set; else 1.
 fn fixed_factor(stats: &Stats, set: u8, place: u8) -> u64
@@ -78,7 +41,7 @@ fn fixed_product(stats: &Stats, places: u8, set: u8) -> u64
 /// The rows of the predicate's place, if it is parameterised and its place is in the set; else 1.
 fn rows_factor(stats: &Stats, set: u8, pred: &Pred) -> u64
     requires { pred.now.at.place < length stats.now.rows }
-    ensures { result ≡ (if is_parameterised_pred pred.now && has set pred.now.at.place
+    ensures { result ≡ (if is_parameterised pred.now && has set pred.now.at.place
         then slice_index stats.now.rows pred.now.at.place else 1) }
 {
     if is_parameterised(pred) && has_place(set, pred.at.place) {

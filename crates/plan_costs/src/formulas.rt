@@ -14,8 +14,8 @@ ghost use Rattle.cost_model.specs.Costs.{top_cost};
 ghost use Rattle.cost_model.specs.Laws.{IsVectorOf};
 ghost use Rattle.plan_costs.specs.Formulas.{IsCostFormula, card_formula, found_formula, grouped_formula, join_formula, out_formula, plan_formula, range_formula, run_formula, selected, sort_formula, step_formula, top_formula, unit_formula};
 
-use crate::accesses::{count_selectivities, is_selected, look_up_cost, scan_cost};
-use crate::cardinalities::{constant_part, is_parameterised};
+use crate::accesses::{is_selected, look_up_cost, scan_cost};
+use crate::cardinalities::constant_part;
 use crate::sorts::comparisons;
 use crate::steps::edge_fan;
 use growth_checker::Expr;
@@ -23,7 +23,7 @@ use plan_trees::{
     Access, COST_SCALE, Plan, Stats, StepKind, Top, has_place, one_place, place_read, step_place,
     with_place, with_places,
 };
-use row_values::{OutOfMemory, Pred, Query};
+use row_values::{OutOfMemory, Pred, Query, is_parameterised, selectivity_count};
 use std::alloc::Global;
 use std::rc::Rc;
 
@@ -132,7 +132,7 @@ fn range_expr(
     ensures { IfOk result (λ e. formula e ≡ range_formula q.now stats.now place pred) }
 {
     if is_selected(q, pred) {
-        let next = count_selectivities(&q.preds()[..usize::from(pred)]);
+        let next = selectivity_count(&q.preds()[..usize::from(pred)]);
         found_expr(alloc, stats, place, next as u8)
     } else {
         let matching = stats.matching(pred);

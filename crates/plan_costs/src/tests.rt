@@ -8,7 +8,6 @@ ghost use Rattle.plan_trees.specs.Statistics.{IsSoundStats, IsSoundVector};
 ghost use Rattle.cost_polynomials.specs.Polynomial.{IsVectorFor};
 ghost use Rattle.cost_model.specs.Laws.{IsVectorOf};
 
-use crate::cardinalities::is_parameterised;
 use crate::{access_unit, card, join_cost, poly_of, sort_cost, step_cost};
 use cost_polynomials::Poly;
 use plan_trees::{
@@ -16,7 +15,8 @@ use plan_trees::{
     is_valid_step, valid,
 };
 use row_values::{
-    ColRef, Column, Edge, Item, Kind, Operand, OutOfMemory, Place, Pred, Query, Schema, Test, Words,
+    ColRef, Column, Edge, Item, Kind, Operand, OutOfMemory, Place, Pred, Query, Schema, Test,
+    Words, is_parameterised,
 };
 use std::alloc::Global;
 use std::rc::Rc;

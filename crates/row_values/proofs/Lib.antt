@@ -1,4 +1,5 @@
 pub mod Counting
+pub mod Fitting
 pub mod InOrder
 pub mod Letters
 pub mod Parameters

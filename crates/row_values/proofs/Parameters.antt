@@ -1,7 +1,7 @@
 -- A statement has at most sixteen parameters for each parameterised predicate.
-use Rattle.std.proofs.Common.{ℕ, ◌≡◌, ◌≤◌, ◌+◌, ◌*◌, ◌==◌, List, [], ◌∷◌, ◌++◌, length, map, not, if◌then◌else◌, Option, All, unwrap_or, ◌<◌, suc, drop, get_or, ap, sym, ◌∙◌, add-one, drop-cons, append_assoc, arith, length-append}
+use Rattle.std.proofs.Common.{ℕ, Bool, true, false, refl, ◌≡◌, ◌≤◌, ◌+◌, ◌*◌, List, [], ◌∷◌, ◌++◌, length, map, if◌then◌else◌, Option, All, unwrap_or, ◌<◌, suc, drop, get_or, ap, sym, ◌∙◌, add-one, drop-cons, append_assoc, arith, length-append}
+use Rattle.std.specs.List.{flat_map, list_any}
 use Rattle.std.proofs.lemmas.List.{length-map}
-use Rattle.std.proofs.lemmas.Bool.Decides.{nat_tests}
 use Rattle.std.proofs.lemmas.List.Elements.{All-head, All-tail}
 use Rattle.row_values.specs.declared.values.Kind.{Kind}
 use Rattle.row_values.specs.declared.values.Kind.TheVariants as kind
@@ -9,42 +9,50 @@ use Rattle.row_values.specs.declared.statement.Place.{Place}
 use Rattle.row_values.specs.declared.statement.Pred.{Pred}
 use Rattle.row_values.specs.declared.statement.Operand.{Operand}
 use Rattle.row_values.specs.declared.statement.Operand.TheVariants.{Literal, Param}
-use Rattle.row_values.specs.declared.statement.Test.{Test}
-use Rattle.row_values.specs.declared.statement.Test.TheVariants.{Lt, Le, Gt, Ge, Eq, Between, OneOf}
-use Rattle.row_values.specs.Statements.{operand_parameters, operands_parameters, test_parameters, kinds_of, kind_at, selectivity_count, IsTest, IsPred}
-
--- what is no more than sixteen is no more than sixteen times one, or it is nothing
-few_numbers : (count : ℕ) → count ≤ 16 → count ≤ 16 * (if not (count == 0) then 1 else 0)
-few_numbers count few = grind (arith, nat_tests)
+use Rattle.row_values.specs.Statements.{operand_parameters, operands_of, is_parameter, test_parameters, kinds_of, kind_at, selectivity_count, IsPred}
 
 few_in_operand : (a : Operand) → length (operand_parameters a) ≤ 1
 few_in_operand (Literal value) = omega arith
 few_in_operand (Param number) = omega arith
 
-few_in_operands : (operands : List Operand) → length (operands_parameters operands) ≤ length operands
+few_in_operands : (operands : List Operand) → length (flat_map operand_parameters operands) ≤ length operands
 few_in_operands [] = omega arith
 few_in_operands (a ∷ operands) =
-    omega (arith, length-append (operand_parameters a) (operands_parameters operands), few_in_operand a, few_in_operands operands)
+    omega (
+      arith,
+      length-append (operand_parameters a) (flat_map operand_parameters operands),
+      few_in_operand a,
+      few_in_operands operands,
+    )
 
-few_in_test : (left : Option Kind) (t : Test) → IsTest left t → length (test_parameters t) ≤ 16
-few_in_test left (Lt a) is = omega (arith, few_in_operand a)
-few_in_test left (Le a) is = omega (arith, few_in_operand a)
-few_in_test left (Gt a) is = omega (arith, few_in_operand a)
-few_in_test left (Ge a) is = omega (arith, few_in_operand a)
-few_in_test left (Eq a) is = omega (arith, few_in_operand a)
-few_in_test left (Between a b) is = omega (arith, length-append (operand_parameters a) (operand_parameters b), few_in_operand a, few_in_operand b)
-few_in_test left (OneOf operands) is = omega (arith, few_in_operands operands, is.0.few)
+none_in_operands : (operands : List Operand) → list_any is_parameter operands ≡ false
+    → length (flat_map operand_parameters operands) ≡ 0
+none_in_operands [] none = refl
+none_in_operands (Literal value ∷ operands) none = none_in_operands operands none
+none_in_operands (Param number ∷ operands) none = cc
 
-pub length-kinds_of : (places : List Place) (preds : List Pred) → All (IsPred places) preds → length (kinds_of places preds) ≤ 16 * selectivity_count preds
+-- what is no more than sixteen is no more than sixteen times one, or it is nothing
+few_by : (some : Bool) (count : ℕ) → (some ≡ false → count ≡ 0) → count ≤ 16 → count ≤ 16 * (if some then 1 else 0)
+few_by true count none few = few
+few_by false count none few = omega (arith, none refl)
+
+few_in_pred : (places : List Place) (pred : Pred) → IsPred places pred
+    → length (test_parameters pred.test) ≤ 16 * (if list_any is_parameter (operands_of pred.test) then 1 else 0)
+few_in_pred places pred is =
+    let operands = operands_of pred.test in
+    few_by (list_any is_parameter operands) (length (flat_map operand_parameters operands)) (none_in_operands operands)
+    (omega (arith, few_in_operands operands, is.0.few))
+
+pub length-kinds_of : (places : List Place) (preds : List Pred) → All (IsPred places) preds
+    → length (kinds_of places preds) ≤ 16 * selectivity_count preds
 length-kinds_of places [] are = omega arith
 length-kinds_of places (pred ∷ preds) are =
     let f : ℕ → Kind = λ _. unwrap_or (kind_at places pred.at) kind.Int in
-    let few = few_in_test (kind_at places pred.at) pred.test (All-head (IsPred places) pred preds are) in
     omega (
       arith,
       length-append (map f (test_parameters pred.test)) (kinds_of places preds),
       length-map (test_parameters pred.test) f,
-      few_numbers (length (test_parameters pred.test)) few,
+      few_in_pred places pred (All-head (IsPred places) pred preds are),
       length-kinds_of places preds (All-tail (IsPred places) pred preds are),
     )
 

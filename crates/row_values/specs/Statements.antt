@@ -1,5 +1,6 @@
 -- The bound statement, and when its parts are sound.
 use Rattle.std.specs.Prelude.{ℕ, ◌≡◌, ◌≢◌, ◌<◌, ◌≤◌, ◌+◌, ◌==◌, List, [], ◌∷◌, ◌++◌, length, map, All, slice_get, Bool, true, false, not, ◌&&◌, ◌||◌, if◌then◌else◌, IsTrue, IsSome, Option, Some, unwrap_or, option_and_then}
+use Rattle.std.specs.List.{flat_map, list_any}
 use Rattle.std.specs.Option.{option_map}
 use Rattle.std.specs.Str.{bytes_eq}
 use Rattle.row_values.specs.Operands.{AreOperands}
@@ -28,8 +29,8 @@ pub record Statement : Type 0 where
   pub groups : List ColRef
   pub order : List OrderKey
 
-abbrev pub statement_of : List Place → List Pred → List Edge → List Item → List ColRef → List OrderKey → Statement
-statement_of places preds edges items groups order =
+abbrev pub statement_with : List Place → List Pred → List Edge → List Item → List ColRef → List OrderKey → Statement
+statement_with places preds edges items groups order =
     record { places = places; preds = preds; edges = edges; items = items; groups = groups; order = order }
 
 -- the kind of a column, where the place and the column are there
@@ -46,14 +47,19 @@ abbrev pub IsOperand : Option Kind → Operand → Type 0
 IsOperand left (Literal value) = left ≡ Some (kind_of value)
 IsOperand left (Param number) = IsSome left
 
+-- what a test compares its column with, in text order
+abbrev pub operands_of : Test → List Operand
+operands_of (Lt a) = a ∷ []
+operands_of (Le a) = a ∷ []
+operands_of (Gt a) = a ∷ []
+operands_of (Ge a) = a ∷ []
+operands_of (Eq a) = a ∷ []
+operands_of (Between a b) = a ∷ b ∷ []
+operands_of (OneOf operands) = operands
+
+-- a test of a column of this kind has as many operands as one may have, each of that kind
 abbrev pub IsTest : Option Kind → Test → Type 0
-IsTest left (Lt a) = IsOperand left a
-IsTest left (Le a) = IsOperand left a
-IsTest left (Gt a) = IsOperand left a
-IsTest left (Ge a) = IsOperand left a
-IsTest left (Eq a) = IsOperand left a
-IsTest left (Between a b) = IsOperand left a × IsOperand left b
-IsTest left (OneOf operands) = AreOperands operands × All (IsOperand left) operands
+IsTest left test = AreOperands (operands_of test) × All (IsOperand left) (operands_of test)
 
 -- a predicate is on a column that is there, against operands of that column's kind
 abbrev pub IsPred : List Place → Pred → Type 0
@@ -73,27 +79,20 @@ IsItem places (item.Sum at) = kind_at places at ≡ Some kind.Int
 IsItem places (item.Min at) = IsColumn places at
 IsItem places (item.Max at) = IsColumn places at
 
--- the numbers of the parameters of an operand, of several, of a test, and of all predicates, in text order
+abbrev pub is_parameter : Operand → Bool
+is_parameter (Literal value) = false
+is_parameter (Param number) = true
+
+-- the numbers of the parameters of an operand, of a test, and of all predicates, in text order
 abbrev pub operand_parameters : Operand → List ℕ
 operand_parameters (Literal value) = []
 operand_parameters (Param number) = number ∷ []
 
-abbrev pub operands_parameters : List Operand → List ℕ
-operands_parameters [] = []
-operands_parameters (operand ∷ operands) = operand_parameters operand ++ operands_parameters operands
-
 abbrev pub test_parameters : Test → List ℕ
-test_parameters (Lt a) = operand_parameters a
-test_parameters (Le a) = operand_parameters a
-test_parameters (Gt a) = operand_parameters a
-test_parameters (Ge a) = operand_parameters a
-test_parameters (Eq a) = operand_parameters a
-test_parameters (Between a b) = operand_parameters a ++ operand_parameters b
-test_parameters (OneOf operands) = operands_parameters operands
+test_parameters test = flat_map operand_parameters (operands_of test)
 
 abbrev pub parameters_of : List Pred → List ℕ
-parameters_of [] = []
-parameters_of (pred ∷ preds) = test_parameters pred.test ++ parameters_of preds
+parameters_of preds = flat_map (λ pred. test_parameters pred.test) preds
 
 -- the numbers rise by one, from this one on
 abbrev pub are_numbered : ℕ → List ℕ → Bool
@@ -102,7 +101,7 @@ are_numbered first (number ∷ numbers) = number == first && are_numbered (first
 
 -- a predicate that some operand makes depend on the arguments
 abbrev pub is_parameterised : Pred → Bool
-is_parameterised pred = not (length (test_parameters pred.test) == 0)
+is_parameterised pred = list_any is_parameter (operands_of pred.test)
 
 abbrev pub selectivity_count : List Pred → ℕ
 selectivity_count [] = 0
@@ -137,16 +136,17 @@ is_grouped_item groups (item.Sum at) = true
 is_grouped_item groups (item.Min at) = true
 is_grouped_item groups (item.Max at) = true
 
-abbrev pub is_plain : Item → Bool
-is_plain (item.Column at) = true
-is_plain item.CountAll = false
-is_plain (item.Sum at) = false
-is_plain (item.Min at) = false
-is_plain (item.Max at) = false
+-- an item that a single row can show: a column
+abbrev pub is_column_item : Item → Bool
+is_column_item (item.Column at) = true
+is_column_item item.CountAll = false
+is_column_item (item.Sum at) = false
+is_column_item (item.Min at) = false
+is_column_item (item.Max at) = false
 
 -- With GROUP BY each item and each ORDER BY key is one of a group; without it each item is one of a row.
 abbrev pub AreGrouped : List ColRef → List Item → List OrderKey → Type 0
-AreGrouped [] items order = All (λ item. IsTrue (is_plain item)) items
+AreGrouped [] items order = All (λ item. IsTrue (is_column_item item)) items
 AreGrouped (group ∷ groups) items order =
     All (λ item. IsTrue (is_grouped_item (group ∷ groups) item)) items × All (λ key. IsTrue (is_among (group ∷ groups) key.at)) order
 

@@ -27,7 +27,8 @@ pub use refusals::{
 pub use spelling::{canonical_name, push_name};
 pub use statement::{
     CONDITION_LIMIT, ColRef, Edge, ITEM_LIMIT, Item, KEY_LIMIT, Operand, OrderKey, PLACE_LIMIT,
-    Place, Pred, Query, SELECTIVITY_LIMIT, Test,
+    Place, Pred, Query, SELECTIVITY_LIMIT, Test, has_group, is_parameter, is_parameterised,
+    selectivity_count,
 };
 pub use text::Words;
 pub use values::{Args, Kind, Value, compare};

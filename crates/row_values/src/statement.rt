@@ -3,15 +3,19 @@
 //! Every `Query` is sound: its parts are in range, of fitting kinds and within the limits, as `IsSoundQuery` says
 //! field by field. `Query::make` is the one way in.
 ghost use Rattle.std.specs.Prelude.{◌≡◌, ◌≤◌, ◌<◌, ◌*◌, ◌^◌, ◌+◌, ◌==◌, ◌++◌, ℕ, List, [], ◌∷◌, false, not, ◌↔◌, IfSome, IsSome, IsTrue, MatchOption, All, length, map};
+ghost use Rattle.std.specs.List.{flat_map, list_any};
 ghost use Rattle.std.specs.Option.{option_map};
 ghost use Rattle.row_values.specs.Columns.{IsSchema};
-ghost use Rattle.row_values.specs.Statements.{IsSoundQuery, statement_of, IsOperand, IsTest, IsPred, IsEdge, IsItem, IsColumn, AreGrouped, kind_at, kinds_of, is_alias_in, are_aliases, is_among, is_grouped_item, is_plain, selectivity_count, operand_parameters, operands_parameters, test_parameters, parameters_of, are_numbered};
+ghost use Rattle.row_values.specs.Operands.{AreOperands};
+ghost use Rattle.row_values.specs.Statements as statements;
+ghost use Rattle.row_values.specs.Statements.{IsSoundQuery, statement_with, IsOperand, IsTest, IsPred, IsEdge, IsItem, IsColumn, AreGrouped, kind_at, kinds_of, is_alias_in, are_aliases, is_among, is_grouped_item, is_column_item, selectivity_count as count_of, operands_of, operand_parameters, test_parameters, parameters_of, are_numbered};
 
 use crate::columns::Schema;
 use crate::operands::{OPERAND_LIMIT, Operands};
 use crate::text::Words;
 use crate::values::{Kind, Value};
 use std::marker::Model;
+use std::slice;
 
 /// The most places of a statement: a set of them fits a byte, and every plan can be looked at.
 pub const PLACE_LIMIT: usize = 5;
@@ -58,6 +62,24 @@ pub enum Test {
     Eq(Operand),
     Between(Operand, Operand),
     OneOf(Operands),
+}
+
+impl Test {
+    /// What the column is compared with: the operands of the first slice in text order, then those of the second.
+    pub fn operands(&self) -> (&[Operand], &[Operand])
+        ensures value { result.0.now ++ result.1.now ≡ operands_of self.now }
+        ensures count { AreOperands (operands_of self.now) }
+    {
+        match self {
+            Test::Lt(a) => (slice::from_ref(a), &[]),
+            Test::Le(a) => (slice::from_ref(a), &[]),
+            Test::Gt(a) => (slice::from_ref(a), &[]),
+            Test::Ge(a) => (slice::from_ref(a), &[]),
+            Test::Eq(a) => (slice::from_ref(a), &[]),
+            Test::Between(a, b) => (slice::from_ref(a), slice::from_ref(b)),
+            Test::OneOf(operands) => (operands.as_slice(), &[]),
+        }
+    }
 }
 
 /// A condition on one place. It is parameterised where an operand is a parameter, else fixed.
@@ -110,29 +132,19 @@ fn is_operand(left: Option<Kind>, operand: &Operand) -> bool
     }
 }
 
-/// Whether each operand of an IN goes with a column of this kind.
-fn are_operands(left: Option<Kind>, operands: &Operands) -> bool
-    ensures { IsTrue result ↔ IsTest left (Test.OneOf operands.now) }
+/// Whether each of the operands goes with a column of this kind.
+fn are_operands(left: Option<Kind>, operands: &[Operand]) -> bool
+    ensures { IsTrue result ↔ All (IsOperand left) operands.now }
 {
-    operands
-        .as_slice()
-        .iter()
-        .all(|operand| is_operand(left, operand))
+    operands.iter().all(|operand| is_operand(left, operand))
 }
 
 /// Whether each operand of the test goes with a column of this kind.
 fn is_test(left: Option<Kind>, test: &Test) -> bool
     ensures { IsTrue result ↔ IsTest left test.now }
 {
-    match test {
-        Test::Lt(a) => is_operand(left, a),
-        Test::Le(a) => is_operand(left, a),
-        Test::Gt(a) => is_operand(left, a),
-        Test::Ge(a) => is_operand(left, a),
-        Test::Eq(a) => is_operand(left, a),
-        Test::Between(a, b) => is_operand(left, a) && is_operand(left, b),
-        Test::OneOf(operands) => are_operands(left, operands),
-    }
+    let (front, back) = test.operands();
+    are_operands(left, front) && are_operands(left, back)
 }
 
 /// Whether each predicate is sound.
@@ -227,7 +239,7 @@ fn aliases_differ(places: &[Place]) -> bool
 }
 
 /// Whether the column is one of the GROUP BY columns.
-fn has_group(groups: &[ColRef], at: ColRef) -> bool
+pub fn has_group(groups: &[ColRef], at: ColRef) -> bool
     ensures { result ≡ is_among groups.now at }
 {
     for group in groups {
@@ -250,7 +262,7 @@ fn shows_group(groups: &[ColRef], item: &Item) -> bool
 
 /// Whether a single row can show the item.
 fn shows_row(item: &Item) -> bool
-    ensures { result ≡ is_plain item.now }
+    ensures { result ≡ is_column_item item.now }
 {
     match item {
         Item::Column(_) => true,
@@ -271,22 +283,23 @@ fn are_grouped(groups: &[ColRef], items: &[Item], order: &[OrderKey]) -> bool
     }
 }
 
-/// How many predicates are parameterised.
-fn count_selectivities(preds: &[Pred]) -> usize
-    ensures { result ≡ selectivity_count preds.now }
+/// How many of the predicates are parameterised: how many numbers their vector has.
+pub fn selectivity_count(preds: &[Pred]) -> usize
+    ensures value { result ≡ count_of preds.now }
+    ensures bound { result ≤ length preds.now }
 {
     let mut count = 0;
     for pred in preds {
-        if is_parameterised(&pred.test) {
+        if is_parameterised(pred) {
             count += 1;
         }
     }
     count
 }
 
-/// Whether an operand is a parameter.
-fn is_parameter(operand: &Operand) -> bool
-    ensures { result ≡ not (length (operand_parameters operand.now) == 0) }
+/// Whether the operand is a parameter.
+pub fn is_parameter(operand: &Operand) -> bool
+    ensures { result ≡ statements.is_parameter operand.now }
 {
     match operand {
         Operand::Literal(_) => false,
@@ -296,29 +309,17 @@ fn is_parameter(operand: &Operand) -> bool
 
 /// Whether one of the operands is a parameter.
 fn has_parameter(operands: &[Operand]) -> bool
-    ensures { result ≡ not (length (operands_parameters operands.now) == 0) }
+    ensures { result ≡ list_any statements.is_parameter operands.now }
 {
-    for operand in operands {
-        if is_parameter(operand) {
-            return true;
-        }
-    }
-    false
+    operands.iter().any(|operand| is_parameter(operand))
 }
 
-/// Whether some operand of the test is a parameter.
-fn is_parameterised(test: &Test) -> bool
-    ensures { result ≡ not (length (test_parameters test.now) == 0) }
+/// Whether some operand of the predicate is a parameter.
+pub fn is_parameterised(pred: &Pred) -> bool
+    ensures { result ≡ statements.is_parameterised pred.now }
 {
-    match test {
-        Test::Lt(a) => is_parameter(a),
-        Test::Le(a) => is_parameter(a),
-        Test::Gt(a) => is_parameter(a),
-        Test::Ge(a) => is_parameter(a),
-        Test::Eq(a) => is_parameter(a),
-        Test::Between(a, b) => is_parameter(a) || is_parameter(b),
-        Test::OneOf(operands) => has_parameter(operands.as_slice()),
-    }
+    let (front, back) = pred.test.operands();
+    has_parameter(front) || has_parameter(back)
 }
 
 /// The number after this operand, if it is a literal or the parameter of number `next`.
@@ -346,10 +347,10 @@ fn number_after(next: usize, operand: &Operand) -> Option<usize>
 fn number_after_all(next: usize, operands: &[Operand]) -> Option<usize>
     requires bound { next < 2 ^ 31 }
     requires few { length operands.now ≤ OPERAND_LIMIT }
-    ensures bound { IfSome result (λ after. after ≤ next + OPERAND_LIMIT) }
+    ensures bound { IfSome result (λ after. after ≤ next + length operands.now) }
     ensures value { (rest : List ℕ) → MatchOption result
-        (are_numbered next (operands_parameters operands.now ++ rest) ≡ false)
-        (λ after. are_numbered next (operands_parameters operands.now ++ rest)
+        (are_numbered next (flat_map operand_parameters operands.now ++ rest) ≡ false)
+        (λ after. are_numbered next (flat_map operand_parameters operands.now ++ rest)
         ≡ are_numbered after rest) }
 {
     let mut after = next;
@@ -361,21 +362,15 @@ fn number_after_all(next: usize, operands: &[Operand]) -> Option<usize>
 
 /// The number after this test, if its parameters are numbered from `next` on.
 fn number_after_test(next: usize, test: &Test) -> Option<usize>
-    requires { next < 2 ^ 31 }
+    requires { next < 2 ^ 30 }
     ensures bound { IfSome result (λ after. after ≤ next + OPERAND_LIMIT) }
     ensures value { (rest : List ℕ) → MatchOption result
         (are_numbered next (test_parameters test.now ++ rest) ≡ false)
         (λ after. are_numbered next (test_parameters test.now ++ rest) ≡ are_numbered after rest) }
 {
-    match test {
-        Test::Lt(a) => number_after(next, a),
-        Test::Le(a) => number_after(next, a),
-        Test::Gt(a) => number_after(next, a),
-        Test::Ge(a) => number_after(next, a),
-        Test::Eq(a) => number_after(next, a),
-        Test::Between(a, b) => number_after(number_after(next, a)?, b),
-        Test::OneOf(operands) => number_after_all(next, operands.as_slice()),
-    }
+    let (front, back) = test.operands();
+    let after = number_after_all(next, front)?;
+    number_after_all(after, back)
 }
 
 /// Whether the parameters are numbered from 0 in text order.
@@ -452,8 +447,8 @@ fn push_operand(kinds: &mut Kinds, kind: Kind, operand: &Operand)
 
 /// Adds the kind once for each parameter among the operands.
 fn push_operands(kinds: &mut Kinds, kind: Kind, operands: &[Operand])
-    requires { length kinds.old + length (operands_parameters operands.now) ≤ PARAMETER_LIMIT }
-    ensures { kinds.new ≡ kinds.old ++ map (λ _. kind) (operands_parameters operands.now) }
+    requires { length kinds.old + length (flat_map operand_parameters operands.now) ≤ PARAMETER_LIMIT }
+    ensures { kinds.new ≡ kinds.old ++ map (λ _. kind) (flat_map operand_parameters operands.now) }
 {
     for operand in operands {
         push_operand(kinds, kind, operand);
@@ -465,18 +460,9 @@ fn push_test(kinds: &mut Kinds, kind: Kind, test: &Test)
     requires { length kinds.old + length (test_parameters test.now) ≤ PARAMETER_LIMIT }
     ensures { kinds.new ≡ kinds.old ++ map (λ _. kind) (test_parameters test.now) }
 {
-    match test {
-        Test::Lt(a) => push_operand(kinds, kind, a),
-        Test::Le(a) => push_operand(kinds, kind, a),
-        Test::Gt(a) => push_operand(kinds, kind, a),
-        Test::Ge(a) => push_operand(kinds, kind, a),
-        Test::Eq(a) => push_operand(kinds, kind, a),
-        Test::Between(a, b) => {
-            push_operand(kinds, kind, a);
-            push_operand(kinds, kind, b);
-        }
-        Test::OneOf(operands) => push_operands(kinds, kind, operands.as_slice()),
-    }
+    let (front, back) = test.operands();
+    push_operands(kinds, kind, front);
+    push_operands(kinds, kind, back);
 }
 
 /// The kinds of all parameters in text order.
@@ -507,15 +493,15 @@ pub struct Query {
 impl Model for Query {
     ghost use Rattle.std.specs.Prelude.{◌≡◌, All};
     ghost use Rattle.row_values.specs.Columns.{IsSchema};
-    ghost use Rattle.row_values.specs.Statements.{Statement, statement_of, IsSoundQuery, kinds_of};
+    ghost use Rattle.row_values.specs.Statements.{Statement, statement_with, IsSoundQuery, kinds_of};
 
     ghost Value = { Statement };
 
-    ghost view = { λ q. statement_of q.places.items q.preds.items q.edges.items
+    ghost view = { λ q. statement_with q.places.items q.preds.items q.edges.items
         q.items.items q.groups.items q.order.items };
 
     ghost invariant = { λ q. IsSoundQuery
-        (statement_of q.places.items q.preds.items q.edges.items
+        (statement_with q.places.items q.preds.items q.edges.items
         q.items.items q.groups.items q.order.items)
         × All (λ place. IsSchema place.schema) q.places.items
         × (q.kinds ≡ kinds_of q.places.items q.preds.items) };
@@ -531,7 +517,7 @@ fn is_sound(
     order: &[OrderKey],
 ) -> bool
     ensures value { IsTrue result ↔ IsSoundQuery
-        (statement_of places.now preds.now edges.now items.now groups.now order.now) }
+        (statement_with places.now preds.now edges.now items.now groups.now order.now) }
     ensures schemas { IsTrue result → All (λ place. IsSchema place.schema) places.now }
 {
     if places.is_empty() || places.len() > PLACE_LIMIT || !aliases_differ(places) {
@@ -540,7 +526,7 @@ fn is_sound(
     if preds.len() > CONDITION_LIMIT || edges.len() > CONDITION_LIMIT - preds.len() {
         return false;
     }
-    if !are_preds(places, preds) || count_selectivities(preds) > SELECTIVITY_LIMIT {
+    if !are_preds(places, preds) || selectivity_count(preds) > SELECTIVITY_LIMIT {
         return false;
     }
     if !parameters_rise(preds) || !are_edges(places, edges) {
@@ -569,9 +555,9 @@ impl Query {
         order: Vec<OrderKey>,
     ) -> Option<Query>
         ensures value { IfSome result (λ q. q
-            ≡ statement_of places.items preds.items edges.items items.items groups.items order.items) }
+            ≡ statement_with places.items preds.items edges.items items.items groups.items order.items) }
         ensures found { IsSome result ↔ IsSoundQuery
-            (statement_of places.items preds.items edges.items items.items groups.items order.items) }
+            (statement_with places.items preds.items edges.items items.items groups.items order.items) }
     {
         if !is_sound(&places, &preds, &edges, &items, &groups, &order) {
             return None;
@@ -586,6 +572,14 @@ impl Query {
             order,
             kinds,
         })
+    }
+
+    /// For proofs alone: the parts go together, and each schema is one. It does nothing.
+    pub fn sound(&self)
+        ensures value { IsSoundQuery self.now }
+        ensures schemas { All (λ place. IsSchema place.schema) self.now.places }
+    {
+        let _ = &self.places;
     }
 
     /// The entries of FROM in order.

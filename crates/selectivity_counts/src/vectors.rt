@@ -2,9 +2,9 @@
 //!
 //! Its numbers are counts of rows of at least 1, held in place: a statement has at most eight parameterised
 //! predicates. Their tests are made ready first, and then asked of each row in turn. The way in is `vector`.
-ghost use Rattle.std.specs.Prelude.{◌≡◌, ◌≤◌, ◌<◌, ◌+◌, ◌++◌, ◌∷◌, ◌==◌, not, List, [], All, length, map, max};
+ghost use Rattle.std.specs.Prelude.{◌≡◌, ◌≤◌, ◌<◌, ◌+◌, ◌++◌, ◌∷◌, List, [], All, length, map, max};
 ghost use Rattle.row_values.specs.declared.values.Value.{Value as AnyValue};
-ghost use Rattle.row_values.specs.Statements.{is_parameterised, operand_parameters, operands_parameters, test_parameters, selectivity_count, selectivity_count as count_of};
+ghost use Rattle.row_values.specs.Statements.{selectivity_count};
 ghost use Rattle.statement_meaning.specs.Vectors as meant;
 ghost use Rattle.statement_meaning.specs.Vectors.{vector_of};
 ghost use Rattle.selectivity_counts.specs.Counts.{selectivities_of};
@@ -13,7 +13,7 @@ use crate::counts::count_rows;
 use csv_tables::Table;
 use plan_trees::Vector;
 use row_tests::{NumberTest, Ready, ReadyTest, ready_pred};
-use row_values::{Operand, Pred, Query, SELECTIVITY_LIMIT, Test, Value};
+use row_values::{Pred, Query, SELECTIVITY_LIMIT, Value, is_parameterised};
 use std::marker::Model;
 
 /// At most eight tests, held in place; contracts see the list.
@@ -69,57 +69,6 @@ impl<'a> Tests<'a> {
     }
 }
 
-/// Whether an operand is a parameter.
-fn is_parameter(operand: &Operand) -> bool
-    ensures { result ≡ not (length (operand_parameters operand.now) == 0) }
-{
-    match operand {
-        Operand::Literal(_) => false,
-        Operand::Param(_) => true,
-    }
-}
-
-/// Whether one of the operands is a parameter.
-fn some_is_parameter(operands: &[Operand]) -> bool
-    ensures { result ≡ not (length (operands_parameters operands.now) == 0) }
-{
-    for operand in operands {
-        if is_parameter(operand) {
-            return true;
-        }
-    }
-    false
-}
-
-/// Whether an operand of the test is a parameter.
-fn has_parameter(test: &Test) -> bool
-    ensures { result ≡ not (length (test_parameters test.now) == 0) }
-{
-    match test {
-        Test::Lt(a) => is_parameter(a),
-        Test::Le(a) => is_parameter(a),
-        Test::Gt(a) => is_parameter(a),
-        Test::Ge(a) => is_parameter(a),
-        Test::Eq(a) => is_parameter(a),
-        Test::Between(a, b) => is_parameter(a) || is_parameter(b),
-        Test::OneOf(operands) => some_is_parameter(operands.as_slice()),
-    }
-}
-
-/// How many of these predicates are parameterised: how many numbers their vector has.
-pub fn selectivity_count(preds: &[Pred]) -> usize
-    ensures { result ≡ count_of preds.now }
-{
-    let mut count = 0;
-    for pred in preds {
-        let test = &pred.test;
-        if has_parameter(test) {
-            count += 1;
-        }
-    }
-    count
-}
-
 /// Adds the test of a predicate, if it is parameterised.
 fn push_test<'a>(tests: &mut Tests<'a>, pred: &'a Pred, args: &[Value])
     requires place { pred.now.at.place ≡ 0 }
@@ -127,7 +76,7 @@ fn push_test<'a>(tests: &mut Tests<'a>, pred: &'a Pred, args: &[Value])
     ensures few { length tests.new ≡ length tests.old + selectivity_count (pred.now ∷ []) }
     ensures value { (rows : List (List AnyValue)) → selectivities_of args.now tests.new rows ≡ selectivities_of args.now tests.old rows ++ meant.selectivities (rows ∷ []) args.now (pred.now ∷ []) }
 {
-    if has_parameter(&pred.test) {
+    if is_parameterised(pred) {
         tests.push(ready_pred(args, pred));
     }
 }

@@ -3,14 +3,11 @@ use Rattle.std.proofs.Common.{ℕ, ◌≡◌, ◌<◌, ◌&&◌, suc, zero, Bool
 use Rattle.std.specs.Prelude.{All, filter, flat_map, IsSome, Option}
 use Rattle.std.proofs.lemmas.Bool.{false≢true}
 use Rattle.std.proofs.lemmas.List.Elements.{All-head, All-weaker}
-use Rattle.row_values.specs.Statements.{Statement, IsSoundQuery, IsEdge, IsColumn, IsOperand, IsTest, IsPred, kind_at}
+use Rattle.row_values.proofs.Fitting.{test_there}
+use Rattle.row_values.specs.Statements.{Statement, IsSoundQuery, IsEdge, IsColumn, IsPred, kind_at}
 use Rattle.row_values.specs.declared.values.Kind.{Kind}
 use Rattle.row_values.specs.declared.values.Value.{Value}
-use Rattle.row_values.specs.declared.statement.Operand.{Operand}
-use Rattle.row_values.specs.declared.statement.Operand.TheVariants.{Literal, Param}
 use Rattle.row_values.specs.declared.statement.Pred.{Pred}
-use Rattle.row_values.specs.declared.statement.Test.{Test}
-use Rattle.row_values.specs.declared.statement.Test.TheVariants.{Lt, Le, Gt, Ge, Eq, Between, OneOf}
 use Rattle.row_values.specs.declared.statement.Edge.{Edge}
 use Rattle.row_values.specs.declared.statement.Place.{Place}
 use Rattle.row_values.specs.RowNumbers.{row_numbers}
@@ -23,29 +20,11 @@ pub only_place : (place : Place) (at number : ℕ) → IsColumn (place ∷ []) (
 only_place place zero number h = refl
 only_place place (suc at) number h = absurd (false≢true h)
 
--- a predicate of a sound statement is on a column that is there
-operand_left : (left : Option Kind) (a : Operand) → IsOperand left a → IsSome left
-operand_left left (Literal value) h = subst IsSome (sym h) refl
-operand_left left (Param number) h = h
-
-first_left : (left : Option Kind) (operands : List Operand) → 0 < length operands → All (IsOperand left) operands
-    → IsSome left
-first_left left [] some h = absurd (omega (arith, some))
-first_left left (a ∷ operands) some h = operand_left left a (All-head (IsOperand left) a operands h)
-
-test_left : (left : Option Kind) (t : Test) → IsTest left t → IsSome left
-test_left left (Lt a) h = operand_left left a h
-test_left left (Le a) h = operand_left left a h
-test_left left (Gt a) h = operand_left left a h
-test_left left (Ge a) h = operand_left left a h
-test_left left (Eq a) h = operand_left left a h
-test_left left (Between a b) h = operand_left left a h.0
-test_left left (OneOf operands) h = first_left left operands h.0.some h.1
-
+-- a predicate of a sound statement is on the one place
 on_it : (places : List Place) → length places ≡ 1 → (pred : Pred) → IsPred places pred → pred.at.place ≡ 0
 on_it [] l pred h = absurd (omega (arith, l))
 on_it (place ∷ []) l pred h =
-    only_place place pred.at.place pred.at.column (test_left (kind_at (place ∷ []) pred.at) pred.test h)
+    only_place place pred.at.place pred.at.column (test_there (kind_at (place ∷ []) pred.at) pred.test h)
 on_it (place ∷ (other ∷ places)) l pred h = absurd (omega (arith, l))
 
 -- so each predicate of a statement of one place is on that place

@@ -1,7 +1,7 @@
 -- Worked examples, checked by computation.
 use Rattle.std.specs.Prelude.{◌≡◌, ℕ, pos, negsuc, true, false, List, [], ◌∷◌, ◌++◌, map, codes, refl}
 use Rattle.std.specs.Fmt.{digits}
-use Rattle.row_values.specs.Statements.{Statement, statement_of}
+use Rattle.row_values.specs.Statements.{Statement, statement_with}
 use Rattle.row_values.specs.declared.values.Value.{Value}
 use Rattle.row_values.specs.declared.values.Value.TheVariants.{Int, Text}
 use Rattle.row_values.specs.declared.statement.Place.{Place}
@@ -41,7 +41,7 @@ falling at = record { at = at; descending = true }
 -- one table t with a column v, and a predicate on it
 abbrev on_v : Test → Statement
 on_v test =
-    statement_of (a_place (codes "t") ∷ []) (record { at = column 0 0; test = test } ∷ []) [] (Column (column 0 0) ∷ [])
+    statement_with (a_place (codes "t") ∷ []) (record { at = column 0 0; test = test } ∷ []) [] (Column (column 0 0) ∷ [])
     [] []
 
 abbrev least : Value
@@ -98,7 +98,7 @@ duplicate_keys =
 
 abbrev join : List OrderKey → Statement
 join order =
-    statement_of (a_place (codes "l") ∷ a_place (codes "r") ∷ []) []
+    statement_with (a_place (codes "l") ∷ a_place (codes "r") ∷ []) []
     (record { left = column 0 0; right = column 1 0 } ∷ []) (Column (column 0 0) ∷ Column (column 1 1) ∷ []) []
     order
 
@@ -120,7 +120,7 @@ shape_forgets_the_order = refl
 -- two sides of two places each: a(k) and b(k, m), c(m, n) and d(n)
 abbrev chain : Statement
 chain =
-    statement_of (a_place (codes "a") ∷ a_place (codes "b") ∷ a_place (codes "c") ∷ a_place (codes "d") ∷ []) []
+    statement_with (a_place (codes "a") ∷ a_place (codes "b") ∷ a_place (codes "c") ∷ a_place (codes "d") ∷ []) []
     (record { left = column 0 0; right = column 1 0 } ∷ record { left = column 2 0; right = column 1 1 } ∷ record { left = column 2 1; right = column 3 0 } ∷ [])
     (Column (column 0 0) ∷ []) [] []
 
@@ -155,7 +155,7 @@ sales =
     (sale (codes "Ulm") 7 3 ∷ sale (codes "Bonn") 7 4 ∷ sale (codes "Ulm") 8 5 ∷ sale (codes "Bonn") 7 6 ∷ sale (codes "Aue") 9 5 ∷ []) ∷ []
 
 abbrev of_sales : List Item → List ColRef → List OrderKey → Statement
-of_sales items groups order = statement_of (a_place (codes "sales") ∷ []) [] [] items groups order
+of_sales items groups order = statement_with (a_place (codes "sales") ∷ []) [] [] items groups order
 
 -- ties stay in the order of the rows, also where the key falls
 year_falls : lines (meaning_of (of_sales (Column (column 0 1) ∷ Column (column 0 2) ∷ []) [] (falling (column 0 1) ∷ [])) sales []) ≡ codes "row 9,5" ∷ codes "row 8,5" ∷ codes "row 7,3" ∷ codes "row 7,4" ∷ codes "row 7,6" ∷ []

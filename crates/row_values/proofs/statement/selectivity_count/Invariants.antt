@@ -1,6 +1,6 @@
 use Rattle.std.proofs.Common.{◌≡◌, ◌+◌, ◌≤◌, drop}
 use Rattle.row_values.specs.Statements.{selectivity_count}
-use Rattle.selectivity_counts.proofs.vectors.selectivity_count.Given as goal
+use Rattle.row_values.proofs.statement.selectivity_count.Given as goal
 
 -- the predicates that are left add the rest
 abbrev pub invariant-loop-pred : goal.invariant-loop-pred

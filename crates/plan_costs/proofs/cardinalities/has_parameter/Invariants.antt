@@ -1,8 +1,0 @@
-use Rattle.std.proofs.Common.{◌≡◌, ◌==◌, drop, length, not}
-use Rattle.row_values.specs.Statements.{operands_parameters}
-use Rattle.plan_costs.proofs.cardinalities.has_parameter.Given as goal
-
--- the operands that are left decide
-abbrev pub invariant-loop-operand : goal.invariant-loop-operand
-invariant-loop-operand l =
-    not (length (operands_parameters (drop l.operand-index l.operands)) == 0) ≡ not (length (operands_parameters l.operands) == 0)
