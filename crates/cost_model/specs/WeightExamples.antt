@@ -3,7 +3,7 @@
 -- AND c.w = d.w GROUP BY a.x, over 100, 1000, 40 and 70 rows. 30 rows of a meet both its predicates, 60 the first and
 -- 50 the other; 20 rows of d meet the one on it, and 200 rows of b the one with the parameter.
 use Rattle.std.specs.Prelude.{◌≡◌, [], ◌∷◌, codes, map, pos, refl}
-use Rattle.row_values.specs.Statements.{Statement, statement_of}
+use Rattle.row_values.specs.Statements.{Statement, statement_with}
 use Rattle.row_values.specs.declared.statement.Item.TheVariants as item
 use Rattle.row_values.specs.declared.statement.Operand.TheVariants as operand
 use Rattle.row_values.specs.declared.statement.Test.TheVariants as test
@@ -19,7 +19,7 @@ use Rattle.cost_model.specs.Examples.{edge_of, table_of}
 
 grouped : Statement
 grouped =
-    statement_of
+    statement_with
     (table_of (codes "a") (codes "x" ∷ codes "y" ∷ []) ∷ table_of (codes "b") (codes "x" ∷ codes "z" ∷ [])
     ∷ table_of (codes "c") (codes "z" ∷ codes "w" ∷ []) ∷ table_of (codes "d") (codes "w" ∷ []) ∷ [])
     (record { at = column_of 0 1; test = test.Lt (operand.Literal (Int (pos 60))) } ∷ record { at = column_of 1 1; test = test.Lt (operand.Param 0) }
