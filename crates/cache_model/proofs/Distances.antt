@@ -6,7 +6,7 @@ use Rattle.cost_polynomials.specs.Growth.{grown_to, grown_from, shrunk_to, shrun
 use Rattle.cost_polynomials.proofs.Growth.{from_below_to}
 use Rattle.cost_model.proofs.CheckBounds.{to_some}
 use Rattle.cache_model.specs.Caches.{Anchor}
-use Rattle.cache_model.specs.Choices.{is_at_most_in_128, passes_selectivity_check}
+use Rattle.cache_model.specs.Choices.{is_at_most, passes_selectivity_check}
 use Rattle.cache_model.specs.Laws.{IsOutside}
 
 -- The first numbers, where they differ.
@@ -57,7 +57,7 @@ further c least num den u d a b t f v g low high up down outside more some =
 
 -- The check.
 
-check_fails : (left right : ℕ) → right < left → is_at_most_in_128 left right ≡ false
+check_fails : (left right : ℕ) → right < left → is_at_most left right ≡ false
 check_fails left right less = and_right (nat_lt left (2 ^ 128) && nat_lt right (2 ^ 128)) (nat_le left right) (lt-leb left right less)
 
 first_outside : (num den cost least x y : ℕ) (xs ys : List ℕ) → den ≤ num → 1 ≤ least → least ≤ cost → num * min x y < max x y * den

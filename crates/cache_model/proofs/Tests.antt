@@ -8,23 +8,24 @@ use Rattle.cost_polynomials.specs.Growth.{grown_to, grown_from, shrunk_to, shrun
 use Rattle.row_values.specs.Statements.{Statement}
 use Rattle.plan_trees.specs.Statistics.{Statistics}
 use Rattle.plan_trees.specs.Trees.{TopTree}
-use Rattle.cost_model.specs.Checks.{IsAtMostIn128, PassesSelectivityCheck, PassesCostCheck}
+use Rattle.fraction_math.specs.Product.{IsAtMost}
+use Rattle.cost_model.specs.Checks.{PassesSelectivityCheck, PassesCostCheck}
 use Rattle.cost_model.specs.Costs.{top_cost}
 use Rattle.cache_model.specs.Caches.{Anchor, CachedPlan, top_numbered}
-use Rattle.cache_model.specs.Choices.{is_at_most_in_128, is_cheap_enough, passes_cost_check, passes_selectivity_check}
+use Rattle.cache_model.specs.Choices.{is_at_most, is_cheap_enough, passes_cost_check, passes_selectivity_check}
 
-fits_to : (left right : ℕ) → is_at_most_in_128 left right ≡ true → IsAtMostIn128 left right
+fits_to : (left right : ℕ) → is_at_most left right ≡ true → IsAtMost left right
 fits_to left right h =
     let both = and_parts (nat_lt left (2 ^ 128) && nat_lt right (2 ^ 128)) (nat_le left right) h in
     let each = and_parts (nat_lt left (2 ^ 128)) (nat_lt right (2 ^ 128)) both.0 in
     record { left_fits = ltb-true left (2 ^ 128) each.0; right_fits = ltb-true right (2 ^ 128) each.1; at_most = leb-true left right both.1 }
 
-fits_from : (left right : ℕ) → IsAtMostIn128 left right → is_at_most_in_128 left right ≡ true
+fits_from : (left right : ℕ) → IsAtMost left right → is_at_most left right ≡ true
 fits_from left right h =
     and_from (nat_lt left (2 ^ 128) && nat_lt right (2 ^ 128)) (nat_le left right)
     (and_from (nat_lt left (2 ^ 128)) (nat_lt right (2 ^ 128)) (lt-ltb left (2 ^ 128) h.left_fits) (lt-ltb right (2 ^ 128) h.right_fits)) (le-leb left right h.at_most)
 
-pub fits : (left right : ℕ) → IsTrue (is_at_most_in_128 left right) ↔ IsAtMostIn128 left right
+pub fits : (left right : ℕ) → IsTrue (is_at_most left right) ↔ IsAtMost left right
 fits left right = (fits_to left right, fits_from left right)
 
 pub selectivity_tells : (lambda : Fraction) (instance : List ℕ) (anchor : Anchor) → IsTrue (passes_selectivity_check lambda instance anchor)

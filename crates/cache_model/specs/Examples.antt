@@ -57,7 +57,8 @@ range = Rows (Base (Range 0 0 0))
 abbrev all_rows : TopTree
 all_rows = Rows (Base (Seq 0))
 
-range_costs : map (λ s. top_cost narrow thousand (s ∷ []) range) (1 ∷ 4 ∷ 100 ∷ 150 ∷ []) ≡ 13194139533312 ∷ 19791209299968 ∷ 230897441832960 ∷ 340848604610560 ∷ []
+range_costs : map (λ s. top_cost narrow thousand (s ∷ []) range) (1 ∷ 4 ∷ 100 ∷ 150 ∷ [])
+    ≡ 13194139533312 ∷ 19791209299968 ∷ 230897441832960 ∷ 340848604610560 ∷ []
 unfolding digits digits_within
 range_costs = refl
 

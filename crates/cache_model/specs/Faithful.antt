@@ -14,14 +14,16 @@ abbrev pub IsWide : Statement → Statistics → Type 0
 IsWide q s = 2 ^ 63 < weighted_size q.preds 0 s.rows
 
 -- a plan of the list is valid, has an anchor, and its number was given before the next
-pub record IsFaithfulPlan (q : Statement) (s : Statistics) (anchors : List Anchor) (next_plan : ℕ) (plan : CachedPlan) : Type 0 where
+pub record IsFaithfulPlan (q : Statement) (s : Statistics) (anchors : List Anchor) (next_plan : ℕ)
+    (plan : CachedPlan) : Type 0 where
   pub valid : IsValidTop q s.indexed plan.top
   pub anchored : IsTrue (has_anchor anchors plan.number)
   pub given : plan.number < next_plan
 
 -- an anchor has a sound vector and a plan of the list, and its two costs are those of this plan and the least there; it
 -- is of one of so many executions, and has served some of them
-pub record IsFaithfulAnchor (q : Statement) (s : Statistics) (plans : List CachedPlan) (executions : ℕ) (anchor : Anchor) : Type 0 where
+pub record IsFaithfulAnchor (q : Statement) (s : Statistics) (plans : List CachedPlan) (executions : ℕ)
+    (anchor : Anchor) : Type 0 where
   pub vector : IsSoundVector q s anchor.at
   pub top : TopTree
   pub there : top_numbered plans anchor.plan ≡ Some top

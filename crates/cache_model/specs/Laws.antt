@@ -23,34 +23,40 @@ SelectivityTestLaw =
 
 abbrev pub CostTestLaw : Type 0
 CostTestLaw =
-    (q : Statement) (s : Statistics) (lambda : Fraction) (instance : List ℕ) (plans : List CachedPlan) (anchor : Anchor) (top : TopTree)
+    (q : Statement) (s : Statistics) (lambda : Fraction) (instance : List ℕ) (plans : List CachedPlan) (anchor : Anchor)
+    (top : TopTree)
     → top_numbered plans anchor.plan ≡ Some top → IsTrue (passes_cost_check q s lambda instance plans anchor)
     ↔ PassesCostCheck lambda.num lambda.den (top_cost q s instance top) anchor.least anchor.at instance
 
 -- Faithful caches.
 
 abbrev pub EmptyIsFaithful : Type 0
-EmptyIsFaithful = (q : Statement) (s : Statistics) (executions budget : ℕ) → IsFaithfulCache empty_cache q s executions budget
+EmptyIsFaithful =
+    (q : Statement) (s : Statistics) (executions budget : ℕ) → IsFaithfulCache empty_cache q s executions budget
 
 -- a cleared cache is faithful to any statistics: so it may be cleared whenever they change
 abbrev pub ClearedIsFaithful : Type 0
 ClearedIsFaithful =
-    (cache : CacheState) (q : Statement) (s : Statistics) (executions budget : ℕ) → IsFaithfulCache (cleared cache) q s executions budget
+    (cache : CacheState) (q : Statement) (s : Statistics) (executions budget : ℕ)
+    → IsFaithfulCache (cleared cache) q s executions budget
 
 -- executions of other statements take nothing from it
 abbrev pub FaithfulLater : Type 0
 FaithfulLater =
-    (cache : CacheState) (q : Statement) (s : Statistics) (executions later budget more : ℕ) → executions ≤ later → budget ≤ more
+    (cache : CacheState) (q : Statement) (s : Statistics) (executions later budget more : ℕ) → executions ≤ later
+    → budget ≤ more
     → IsFaithfulCache cache q s executions budget → IsFaithfulCache cache q s later more
 
 abbrev pub ReuseLaw : Type 0
 ReuseLaw =
-    (cache : CacheState) (q : Statement) (s : Statistics) (executions budget position : ℕ) → IsFaithfulCache cache q s executions budget
+    (cache : CacheState) (q : Statement) (s : Statistics) (executions budget position : ℕ)
+    → IsFaithfulCache cache q s executions budget
     → IsFaithfulCache (reused cache position) q s (executions + 1) budget
 
 abbrev pub EvictLaw : Type 0
 EvictLaw =
-    (cache : CacheState) (q : Statement) (s : Statistics) (executions budget number : ℕ) → IsFaithfulCache cache q s executions budget
+    (cache : CacheState) (q : Statement) (s : Statistics) (executions budget number : ℕ)
+    → IsFaithfulCache cache q s executions budget
     → IsFaithfulCache (without cache number) q s executions budget
 
 -- the plan of an optimum is valid and costs the least at its vector, which is sound
@@ -62,8 +68,10 @@ pub record IsOptimum (q : Statement) (s : Statistics) (optimum : Optimum) : Type
 
 abbrev pub KeepingLaw : Type 0
 KeepingLaw =
-    (cache : CacheState) (q : Statement) (s : Statistics) (executions : ℕ) (optimum : Optimum) (keep : Fraction) (budget : ℕ) → 1 ≤ budget → ¬ IsWide q s → IsOptimum q s optimum
-    → optimum.execution ≡ executions + 1 → IsFaithfulCache cache q s executions budget → IsFaithfulCache (kept_after cache q s optimum keep budget).cache q s (executions + 1) budget
+    (cache : CacheState) (q : Statement) (s : Statistics) (executions : ℕ) (optimum : Optimum) (keep : Fraction)
+    (budget : ℕ) → 1 ≤ budget → ¬ IsWide q s → IsOptimum q s optimum
+    → optimum.execution ≡ executions + 1 → IsFaithfulCache cache q s executions budget
+    → IsFaithfulCache (kept_after cache q s optimum keep budget).cache q s (executions + 1) budget
 
 -- the next number afterwards: numbers go on, by one at most
 pub record IsNextOf (before after : ℕ) : Type 0 where
@@ -78,7 +86,8 @@ NextPlanLaw =
 -- The bound.
 
 -- the anchor at this position has a valid plan, that costs at the instance at most `num / den` times the least
-pub record IsWithinBound (cache : CacheState) (q : Statement) (s : Statistics) (instance : List ℕ) (lambda : Fraction) (position : ℕ) : Type 0 where
+pub record IsWithinBound (cache : CacheState) (q : Statement) (s : Statistics) (instance : List ℕ) (lambda : Fraction)
+    (position : ℕ) : Type 0 where
   pub anchor : Anchor
   pub there : slice_get cache.anchors position ≡ Some anchor
   pub top : TopTree
@@ -89,11 +98,15 @@ pub record IsWithinBound (cache : CacheState) (q : Statement) (s : Statistics) (
 -- what a faithful cache lets be used again is within the bound
 abbrev pub ChoiceBoundLaw : Type 0
 ChoiceBoundLaw =
-    (cache : CacheState) (q : Statement) (s : Statistics) (executions budget : ℕ) (instance : List ℕ) (lambda : Fraction) (recosts position : ℕ) → IsFaithfulCache cache q s executions budget
-    → IsSoundVector q s instance → position_chosen (choice_of cache q s instance lambda recosts) ≡ Some position → IsWithinBound cache q s instance lambda position
+    (cache : CacheState) (q : Statement) (s : Statistics) (executions budget : ℕ) (instance : List ℕ)
+    (lambda : Fraction) (recosts position : ℕ) → IsFaithfulCache cache q s executions budget
+    → IsSoundVector q s instance → position_chosen (choice_of cache q s instance lambda recosts) ≡ Some position
+    → IsWithinBound cache q s instance lambda position
 
 abbrev pub OneLeastCostLaw : Type 0
-OneLeastCostLaw = (q : Statement) (s : Statistics) (vector : List ℕ) (a b : ℕ) → IsLeastCost q s vector a → IsLeastCost q s vector b → a ≡ b
+OneLeastCostLaw =
+    (q : Statement) (s : Statistics) (vector : List ℕ) (a b : ℕ) → IsLeastCost q s vector a → IsLeastCost q s vector b
+    → a ≡ b
 
 -- The choice, by what passes.
 
@@ -105,31 +118,39 @@ pub record IsFirst {T : Type 0} (P : T → Type 0) (xs : List T) (position : ℕ
   pub none_before : All (λ x. ¬ P x) (take position xs)
 
 abbrev pub PassesBySelectivity : Fraction → List ℕ → Anchor → Type 0
-PassesBySelectivity lambda instance anchor = PassesSelectivityCheck lambda.num lambda.den anchor.plan_cost anchor.least anchor.at instance
+PassesBySelectivity lambda instance anchor =
+    PassesSelectivityCheck lambda.num lambda.den anchor.plan_cost anchor.least anchor.at instance
 
 -- the anchor's plan passes the cost check
-pub record PassesByCost (q : Statement) (s : Statistics) (plans : List CachedPlan) (lambda : Fraction) (instance : List ℕ) (anchor : Anchor) : Type 0 where
+pub record PassesByCost (q : Statement) (s : Statistics) (plans : List CachedPlan) (lambda : Fraction)
+    (instance : List ℕ) (anchor : Anchor) : Type 0 where
   pub top : TopTree
   pub plan : top_numbered plans anchor.plan ≡ Some top
   pub check : PassesCostCheck lambda.num lambda.den (top_cost q s instance top) anchor.least anchor.at instance
 
 -- no anchor passes the selectivity check; of the candidates the one that was tried last is the first to pass the cost check
-pub record IsChosenByCost (cache : CacheState) (q : Statement) (s : Statistics) (instance : List ℕ) (lambda : Fraction) (recosts position tried : ℕ) : Type 0 where
+pub record IsChosenByCost (cache : CacheState) (q : Statement) (s : Statistics) (instance : List ℕ) (lambda : Fraction)
+    (recosts position tried : ℕ) : Type 0 where
   pub not_by_selectivity : All (λ anchor. ¬ PassesBySelectivity lambda instance anchor) cache.anchors
   pub before : ℕ
   pub counted : tried ≡ before + 1
-  pub first : IsFirst (λ candidate. PassesByCost q s cache.plans lambda instance candidate.anchor) (candidates_of instance recosts cache.anchors) before
+  pub first : IsFirst (λ candidate. PassesByCost q s cache.plans lambda instance candidate.anchor)
+      (candidates_of instance recosts cache.anchors) before
   pub placed : first.item.position ≡ position
 
 -- no anchor passes the selectivity check, and no candidate the cost check
-pub record IsOptimised (cache : CacheState) (q : Statement) (s : Statistics) (instance : List ℕ) (lambda : Fraction) (recosts tried : ℕ) : Type 0 where
+pub record IsOptimised (cache : CacheState) (q : Statement) (s : Statistics) (instance : List ℕ) (lambda : Fraction)
+    (recosts tried : ℕ) : Type 0 where
   pub not_by_selectivity : All (λ anchor. ¬ PassesBySelectivity lambda instance anchor) cache.anchors
-  pub not_by_cost : All (λ candidate. ¬ PassesByCost q s cache.plans lambda instance candidate.anchor) (candidates_of instance recosts cache.anchors)
+  pub not_by_cost : All (λ candidate. ¬ PassesByCost q s cache.plans lambda instance candidate.anchor)
+      (candidates_of instance recosts cache.anchors)
   pub counted : tried ≡ length (candidates_of instance recosts cache.anchors)
 
 abbrev pub IsChoice : CacheState → Statement → Statistics → List ℕ → Fraction → ℕ → Choice → Type 0
-IsChoice cache q s instance lambda recosts (BySelectivity position) = IsFirst (PassesBySelectivity lambda instance) cache.anchors position
-IsChoice cache q s instance lambda recosts (ByCost position tried) = IsChosenByCost cache q s instance lambda recosts position tried
+IsChoice cache q s instance lambda recosts (BySelectivity position) =
+    IsFirst (PassesBySelectivity lambda instance) cache.anchors position
+IsChoice cache q s instance lambda recosts (ByCost position tried) =
+    IsChosenByCost cache q s instance lambda recosts position tried
 IsChoice cache q s instance lambda recosts (ByOptimum tried) = IsOptimised cache q s instance lambda recosts tried
 
 -- a plan is used again exactly where a check passes
@@ -153,7 +174,8 @@ pub record AreByNearness (instance : List ℕ) (anchors : List Anchor) (candidat
 
 abbrev pub CandidatesLaw : Type 0
 CandidatesLaw =
-    (instance : List ℕ) (anchors : List Anchor) → All (λ n. 1 ≤ n) instance → All (λ anchor. All (λ n. 1 ≤ n) anchor.at) anchors
+    (instance : List ℕ) (anchors : List Anchor) → All (λ n. 1 ≤ n) instance
+    → All (λ anchor. All (λ n. 1 ≤ n) anchor.at) anchors
     → AreByNearness instance anchors (by_nearness instance (placed_from 0 anchors))
 
 -- Numbers.
@@ -166,13 +188,15 @@ pub record IsSoundAnchor (anchor : Anchor) : Type 0 where
 
 abbrev pub AnchorCostsLaw : Type 0
 AnchorCostsLaw =
-    (cache : CacheState) (q : Statement) (s : Statistics) (executions budget : ℕ) → IsSoundQuery q → IsSoundStats q s → IsFaithfulCache cache q s executions budget
+    (cache : CacheState) (q : Statement) (s : Statistics) (executions budget : ℕ) → IsSoundQuery q → IsSoundStats q s
+    → IsFaithfulCache cache q s executions budget
     → All IsSoundAnchor cache.anchors
 
 -- the products of the checks, and those of the candidates' order, are at most this one
 abbrev pub VectorsFitLaw : Type 0
 VectorsFitLaw =
-    (q : Statement) (s : Statistics) (instance anchor : List ℕ) → IsSoundQuery q → IsSoundStats q s → IsSoundVector q s instance → IsSoundVector q s anchor
+    (q : Statement) (s : Statistics) (instance anchor : List ℕ) → IsSoundQuery q → IsSoundStats q s
+    → IsSoundVector q s instance → IsSoundVector q s anchor
     → greater_product instance anchor ≤ 2 ^ 63
 
 -- The window: which anchors the selectivity check can let through at all.
@@ -180,9 +204,12 @@ VectorsFitLaw =
 -- the first numbers of the two vectors are further apart than the ratio
 abbrev pub IsOutside : Fraction → List ℕ → List ℕ → Type 0
 IsOutside lambda instance at =
-    lambda.num * min (slice_index instance 0) (slice_index at 0) < max (slice_index instance 0) (slice_index at 0) * lambda.den
+    lambda.num * min (slice_index instance 0) (slice_index at 0) < max (slice_index instance 0)
+    (slice_index at 0) * lambda.den
 
 abbrev pub WindowLaw : Type 0
 WindowLaw =
-    (lambda : Fraction) (instance : List ℕ) (anchor : Anchor) → lambda.den ≤ lambda.num → 1 ≤ anchor.least → anchor.least ≤ anchor.plan_cost
-    → length instance ≡ length anchor.at → IsOutside lambda instance anchor.at → passes_selectivity_check lambda instance anchor ≡ false
+    (lambda : Fraction) (instance : List ℕ) (anchor : Anchor) → lambda.den ≤ lambda.num → 1 ≤ anchor.least
+    → anchor.least ≤ anchor.plan_cost
+    → length instance ≡ length anchor.at → IsOutside lambda instance anchor.at
+    → passes_selectivity_check lambda instance anchor ≡ false

@@ -46,7 +46,8 @@ pub fn plan_numbers_go_on()
     ensures { NextPlanLaw }
 {}
 
-/// What a faithful cache lets be used again is valid, and costs at most `num / den` times the least.
+/// What a faithful cache lets be used again is valid, and costs at most `num / den` times the
+/// least.
 pub fn choice_is_within_bound()
     ensures { ChoiceBoundLaw }
 {}
@@ -56,22 +57,26 @@ pub fn one_least_cost()
     ensures { OneLeastCostLaw }
 {}
 
-/// An anchor whose first selectivity is further from the instance's than the ratio doesn't pass the selectivity check.
+/// An anchor whose first selectivity is further from the instance's than the ratio doesn't pass the
+/// selectivity check.
 pub fn outside_the_window_fails()
     ensures { WindowLaw }
 {}
 
-/// A plan is used again exactly where a check passes: the choice is the first anchor or candidate that does.
+/// A plan is used again exactly where a check passes: the choice is the first anchor or candidate
+/// that does.
 pub fn reuse_where_a_check_passes()
     ensures { ChoiceLaw }
 {}
 
-/// The candidates of the cost check are the anchors in one order: the nearest first, and then the earlier.
+/// The candidates of the cost check are the anchors in one order: the nearest first, and then the
+/// earlier.
 pub fn candidates_are_by_nearness()
     ensures { CandidatesLaw }
 {}
 
-/// The costs of the anchors of a faithful cache are from 1 to below 2^124, and no plan costs less than the least.
+/// The costs of the anchors of a faithful cache are from 1 to below 2^124, and no plan costs less
+/// than the least.
 pub fn anchor_costs_fit()
     ensures { AnchorCostsLaw }
 {}

@@ -5,9 +5,7 @@ use Rattle.std.proofs.lemmas.Option.{slice_get_within}
 use Rattle.row_values.specs.Statements.{Statement, IsSoundQuery, IsColumn, kind_at}
 use Rattle.row_values.specs.declared.columns.Column.{Column}
 use Rattle.row_values.specs.declared.statement.ColRef.{ColRef}
-use Rattle.row_values.specs.declared.statement.Edge.{Edge}
 use Rattle.row_values.specs.declared.statement.Place.{Place}
-use Rattle.row_values.specs.declared.statement.Pred.{Pred}
 use Rattle.plan_trees.specs.Indexes.{has_index}
 use Rattle.plan_trees.specs.PlaceSets.{has, all_below, are_apart}
 use Rattle.plan_trees.specs.PlanSpace.{IsValidAccess, IsValidStep, IsValidHashJoin, IsValidPlan, IsValidTop, SuitsStatement, column_in, column_of, has_all_keys, is_grouped, is_sorted_plan, connects, joins_to, wanted_order, wants_order}
@@ -18,7 +16,7 @@ use Rattle.plan_trees.specs.declared.plans.Access.{Access}
 use Rattle.plan_trees.specs.declared.plans.Access.TheVariants.{Seq, Range, Full}
 use Rattle.plan_trees.specs.declared.plans.StepKind.{StepKind}
 use Rattle.plan_trees.specs.declared.plans.StepKind.TheVariants.{Loop, Probe}
-use Rattle.plan_trees.proofs.SoundParts.{column_in_range}
+use Rattle.plan_trees.proofs.SoundParts.{column_in_range, edge_there, pred_there}
 use Rattle.plan_trees.proofs.ValidPlans.{nested, some_nested}
 use Rattle.cost_model.specs.Costs.{top_cost}
 use Rattle.cost_model.specs.Laws.{HasLeastCost}
@@ -96,10 +94,6 @@ column_counted : (places : List Place) (place column : ℕ) → IsColumn places 
 unfolding columns_at
 column_counted places place column h = column_counted_by column (slice_get places place) h
 
-pred_counted_by : (preds : List Pred) (j : ℕ) (at : ColRef) (o : Option Pred) → slice_get preds j ≡ o → option_map (λ p. p.at) o ≡ Some at → j < length preds
-pred_counted_by preds j at None e h = absurd (cc)
-pred_counted_by preds j at (Some p) e h = slice_get_within preds j p e
-
 full_of : ℕ × ℕ → Access
 full_of p = Full p.0 p.1
 
@@ -128,7 +122,7 @@ unfolding IsSomeAccess IsColumnPair IsRangeTriple full_of range_of
 some_access q indexed (Seq t) v = inl (t, v, refl)
 some_access q indexed (Full t c) v = inr (inl ((t, c), (column_in_range q.places (column_of t c) v.0, column_counted q.places t c v.0), refl))
 some_access q indexed (Range t c j) v =
-    inr (inr (((t, c), j), ((column_in_range q.places (column_of t c) v.0, column_counted q.places t c v.0), pred_counted_by q.preds j (column_of t c) (slice_get q.preds j) refl v.2), refl))
+    inr (inr (((t, c), j), ((column_in_range q.places (column_of t c) v.0, column_counted q.places t c v.0), pred_there q.preds j (column_of t c) v.2), refl))
 
 search_accesses : (q : Statement) (indexed : List ℕ) → Searchable Access (IsValidAccess q indexed)
 unfolding IsSomeAccess
@@ -138,10 +132,6 @@ search_accesses q indexed =
     (some_access q indexed) (decided_access q indexed)
 
 -- Steps.
-
-edge_counted_by : (P : Edge → Type 0) (edges : List Edge) (edge : ℕ) (o : Option Edge) → slice_get edges edge ≡ o → IsSomeAnd o P → edge < length edges
-edge_counted_by P edges edge None e h = absurd h
-edge_counted_by P edges edge (Some x) e h = slice_get_within edges edge x e
 
 probe_of : ℕ × ℕ → StepKind
 probe_of p = Probe p.0 p.1
@@ -154,7 +144,7 @@ IsSomeStep q indexed step =
 some_step : (q : Statement) (indexed : List ℕ) (set : ℕ) (step : StepKind) → IsValidStep q indexed set step → IsSomeStep q indexed step
 unfolding IsSomeStep probe_of
 some_step q indexed set (Loop access) v = inl (access, v.0, refl)
-some_step q indexed set (Probe t edge) v = inr ((t, edge), (v.0, edge_counted_by _ q.edges edge (slice_get q.edges edge) refl v.2), refl)
+some_step q indexed set (Probe t edge) v = inr ((t, edge), (v.0, edge_there _ q.edges edge v.2), refl)
 
 search_steps : (q : Statement) (indexed : List ℕ) (set : ℕ) → Searchable StepKind (IsValidStep q indexed set)
 unfolding IsSomeStep
@@ -169,7 +159,7 @@ search_steps q indexed set =
 search_edges : (q : Statement) (left right : ℕ) → Searchable ℕ (IsValidHashJoin q left right)
 search_edges q left right =
     search_among ℕ (λ edge. edge < length q.edges) (IsValidHashJoin q left right) (search_numbers (length q.edges))
-    (λ edge v. edge_counted_by _ q.edges edge (slice_get q.edges edge) refl v.1) (decided_hash_join q left right)
+    (λ edge v. edge_there _ q.edges edge v.1) (decided_hash_join q left right)
 
 -- Plans of at most so many nested.
 

@@ -68,12 +68,12 @@ below_every_top q s vector table least top feasible fits valid = below_top top f
 -- Tight tables are feasible.
 
 -- a plan that costs no more than this
-record IsPlanWithin (q : Statement) (s : Statistics) (vector : List ℕ) (sorted : Bool) (set cost : ℕ) : Type 0 where
+record IsReachedWithin (q : Statement) (s : Statistics) (vector : List ℕ) (sorted : Bool) (set cost : ℕ) : Type 0 where
   plan : Tree
   fits : IsPlanOf q s sorted set plan
   within : plan_cost q s vector plan ≤ cost
 
-reached : (q : Statement) (s : Statistics) (vector : List ℕ) (sorted : Bool) (set cost : ℕ) (cell : Option ℕ) → IsTightCell q s vector sorted set cell → AtMost cell cost → IsPlanWithin q s vector sorted set cost
+reached : (q : Statement) (s : Statistics) (vector : List ℕ) (sorted : Bool) (set cost : ℕ) (cell : Option ℕ) → IsTightCell q s vector sorted set cell → AtMost cell cost → IsReachedWithin q s vector sorted set cost
 reached q s vector sorted set cost None t h = absurd h
 reached q s vector sorted set cost (Some n) t h = record { plan = t.plan; fits = t.fits; within = let e = t.costs in omega arith }
 
@@ -169,7 +169,7 @@ whole_is_set q s vector table least t =
     let top = t.least_cost.reached.top in
     subst (λ n. IsPlaceSet q n) t.least_cost.reached.valid.whole (set_of_plan q s.indexed (plan_below top) t.least_cost.reached.valid.plan)
 
-whole_plan : (q : Statement) (s : Statistics) (vector : List ℕ) (table : Table) (least : ℕ) → IsTight q s vector table least → (sorted : Bool) (cost : ℕ) → AtMost (table sorted (whole_set q)) cost → IsPlanWithin q s vector sorted (whole_set q) cost
+whole_plan : (q : Statement) (s : Statistics) (vector : List ℕ) (table : Table) (least : ℕ) → IsTight q s vector table least → (sorted : Bool) (cost : ℕ) → AtMost (table sorted (whole_set q)) cost → IsReachedWithin q s vector sorted (whole_set q) cost
 whole_plan q s vector table least t sorted cost h = reached q s vector sorted (whole_set q) cost (table sorted (whole_set q)) (t.cells sorted _ (whole_is_set q s vector table least t)) h
 
 finished : (q : Statement) (s : Statistics) (vector : List ℕ) (places set least below cost weight : ℕ) → places ≡ set → below ≤ cost → least ≤ below + weight * card_of q s vector places → least ≤ cost + weight * card_of q s vector set

@@ -36,7 +36,9 @@ distinct_product q s set = marked_product (map (is_inside set) q.edges) s.distin
 
 -- the part of a cardinality that no selectivity changes, rounded up once
 unfoldable pub kappa : Statement → Statistics → ℕ → ℕ
-kappa q s set = div_ceil (COST_SCALE * product_over set 0 s.fixed) (selected_product q set (selected_rows q s) * distinct_product q s set)
+kappa q s set =
+    div_ceil (COST_SCALE * product_over set 0 s.fixed)
+    (selected_product q set (selected_rows q s) * distinct_product q s set)
 
 -- the cardinality of a set of places at a selectivity vector
 unfoldable pub card_of : Statement → Statistics → List ℕ → ℕ → ℕ

@@ -76,5 +76,6 @@ plan_cost q s vector (Sort outer) = plan_cost q s vector outer + sort_cost q s v
 
 abbrev pub top_cost : Statement → Statistics → List ℕ → TopTree → ℕ
 top_cost q s vector (Rows plan) = plan_cost q s vector plan
-top_cost q s vector (SortedGroups plan) = plan_cost q s vector plan + s.weights.row * card_of q s vector (places_of plan)
+top_cost q s vector (SortedGroups plan) =
+    plan_cost q s vector plan + s.weights.row * card_of q s vector (places_of plan)
 top_cost q s vector (HashGroups plan) = plan_cost q s vector plan + s.weights.hash * card_of q s vector (places_of plan)

@@ -54,11 +54,13 @@ three_tables = record {
 }
 
 -- of the three pairs, and of all three: 8, 16, 1024 rows and a 64th of a row
-cardinalities : map (card_of three_places three_tables []) (3 ∷ 5 ∷ 6 ∷ 7 ∷ []) ≡ 8 * COST_SCALE ∷ 16 * COST_SCALE ∷ 1024 * COST_SCALE ∷ COST_SCALE / 64 ∷ []
+cardinalities : map (card_of three_places three_tables []) (3 ∷ 5 ∷ 6 ∷ 7 ∷ [])
+    ≡ 8 * COST_SCALE ∷ 16 * COST_SCALE ∷ 1024 * COST_SCALE ∷ COST_SCALE / 64 ∷ []
 unfolding three_places three_tables usual_weights table_of edge_of card_of kappa digits digits_within
 cardinalities = refl
 
-cheapest_cost : plan_cost three_places three_tables [] (Join (Join (Base (Seq 0)) (Probe 2 1)) (Probe 1 2)) ≡ 387045272846336
+cheapest_cost : plan_cost three_places three_tables [] (Join (Join (Base (Seq 0)) (Probe 2 1)) (Probe 1 2))
+    ≡ 387045272846336
 unfolding three_places three_tables usual_weights table_of edge_of card_of kappa digits digits_within
 cheapest_cost = refl
 
@@ -79,7 +81,8 @@ record Space : Type 0 where
 
 joins_from : Space → ℕ → StepKind → Bool
 joins_from space set (Loop access) = true
-joins_from space set (Probe place edge) = option_map_or (joins_to set place) (slice_get space.statement.edges edge) false
+joins_from space set (Probe place edge) =
+    option_map_or (joins_to set place) (slice_get space.statement.edges edge) false
 
 some_edge : ℕ → ℕ → List Edge → Bool
 some_edge left right [] = false
@@ -115,10 +118,12 @@ least_any space zero set = None
 least_any space (suc most) set =
     least_of (map (λ access. if set == one (place_of access) then Some (COST_SCALE * access_unit space.statement space.tables [] access) else None) space.accesses
     ++ map (λ step. if has set (place_entering step) && joins_from space (set - one (place_entering step)) step
-    then plus (least_any space most (set - one (place_entering step))) (step_cost space.statement space.tables [] (set - one (place_entering step)) step)
+    then plus (least_any space most (set - one (place_entering step)))
+    (step_cost space.statement space.tables [] (set - one (place_entering step)) step)
     else None) space.steps
     ++ map (λ left. if joins_with space left (set - left)
-    then plus (sum (least_any space most left) (least_any space most (set - left))) (join_cost space.statement space.tables [] left (set - left))
+    then plus (sum (least_any space most left) (least_any space most (set - left)))
+    (join_cost space.statement space.tables [] left (set - left))
     else None) (numbers_below set))
 
 accesses : List Access
@@ -135,8 +140,8 @@ three_space = record {
 
 -- the cells of the sets 0 to 7: there is no plan of no place
 cells : map (least_any three_space 3) (0 ∷ 1 ∷ 2 ∷ 3 ∷ 4 ∷ 5 ∷ 6 ∷ 7 ∷ [])
-    ≡ None ∷ Some (8 * COST_SCALE) ∷ Some (1024 * COST_SCALE) ∷ Some (3104 * COST_SCALE) ∷ Some (1024 * COST_SCALE) ∷ Some (144 * COST_SCALE)
-    ∷ Some (7168 * COST_SCALE) ∷ Some (352 * COST_SCALE + COST_SCALE / 64) ∷ []
+    ≡ None ∷ Some (8 * COST_SCALE) ∷ Some (1024 * COST_SCALE) ∷ Some (3104 * COST_SCALE) ∷ Some (1024 * COST_SCALE)
+    ∷ Some (144 * COST_SCALE) ∷ Some (7168 * COST_SCALE) ∷ Some (352 * COST_SCALE + COST_SCALE / 64) ∷ []
 unfolding least_any least_of numbers_below plus sum lesser joins_from joins_with some_edge three_space accesses three_places three_tables usual_weights table_of edge_of card_of kappa digits digits_within
 cells = refl
 
@@ -176,7 +181,8 @@ in_the_space = record {
   suits = (refl, λ wanted. absurd (true≢false (sym wanted)));
 }
 
-spelling : top_text four_places.places (Rows from_both_ends) ≡ codes "rows(hash(hash(seq(a),seq(b),1),hash(seq(c),seq(d),3),2))"
+spelling : top_text four_places.places (Rows from_both_ends)
+    ≡ codes "rows(hash(hash(seq(a),seq(b),1),hash(seq(c),seq(d),3),2))"
 unfolding from_both_ends first_pair last_pair four_places table_of edge_of decimal_digits
 spelling = refl
 
@@ -190,7 +196,8 @@ both_ends_in_full : plan_cost four_places four_tables [] from_both_ends ≡ 1297
 unfolding from_both_ends first_pair last_pair four_places four_tables usual_weights table_of edge_of card_of kappa digits digits_within
 both_ends_in_full = refl
 
-one_end : plan_cost four_places four_tables [] (HashJoin (HashJoin first_pair (Base (Seq 2)) 1) (Base (Seq 3)) 2) ≡ 41500 * COST_SCALE
+one_end : plan_cost four_places four_tables [] (HashJoin (HashJoin first_pair (Base (Seq 2)) 1) (Base (Seq 3)) 2)
+    ≡ 41500 * COST_SCALE
 unfolding first_pair four_places four_tables usual_weights table_of edge_of card_of kappa digits digits_within
 one_end = refl
 
@@ -210,7 +217,8 @@ is_single : ℕ → Bool
 is_single set = set == one 0 || set == one 1 || set == one 2 || set == one 3
 
 -- the least cost of all plans, and of those that take in one place after the other
-least_costs : map (λ is_inner. least_any (four_space is_inner) 4 15) ((λ set. true) ∷ is_single ∷ []) ≡ Some (11800 * COST_SCALE) ∷ Some (41500 * COST_SCALE) ∷ []
+least_costs : map (λ is_inner. least_any (four_space is_inner) 4 15) ((λ set. true) ∷ is_single ∷ [])
+    ≡ Some (11800 * COST_SCALE) ∷ Some (41500 * COST_SCALE) ∷ []
 unfolding least_any least_of numbers_below plus sum lesser joins_from joins_with some_edge four_space is_single scans four_places four_tables usual_weights table_of edge_of card_of kappa digits digits_within
 least_costs = refl
 
@@ -240,11 +248,13 @@ hash_join = HashJoin (Base (Seq 0)) (Base (Seq 1)) 0
 index_join : Tree
 index_join = Join (Base (Seq 1)) (Probe 0 0)
 
-many_orders : map (plan_cost orders shop (50 ∷ [])) (hash_join ∷ index_join ∷ []) ≡ 1450 * COST_SCALE ∷ 1500 * COST_SCALE ∷ []
+many_orders : map (plan_cost orders shop (50 ∷ [])) (hash_join ∷ index_join ∷ [])
+    ≡ 1450 * COST_SCALE ∷ 1500 * COST_SCALE ∷ []
 unfolding hash_join index_join orders shop usual_weights table_of edge_of card_of kappa digits digits_within
 many_orders = refl
 
-few_orders : map (plan_cost orders shop (5 ∷ [])) (hash_join ∷ index_join ∷ []) ≡ 1315 * COST_SCALE ∷ 1050 * COST_SCALE ∷ []
+few_orders : map (plan_cost orders shop (5 ∷ [])) (hash_join ∷ index_join ∷ [])
+    ≡ 1315 * COST_SCALE ∷ 1050 * COST_SCALE ∷ []
 unfolding hash_join index_join orders shop usual_weights table_of edge_of card_of kappa digits digits_within
 few_orders = refl
 

@@ -29,17 +29,21 @@ IsVectorOf q vector = length vector ≡ selectivity_count q.preds
 
 abbrev pub GrowthLaw : Type 0
 GrowthLaw =
-    (q : Statement) (s : Statistics) (top : TopTree) (instance anchor : List ℕ) → IsValidTop q s.indexed top → IsVectorOf q instance → IsVectorOf q anchor
+    (q : Statement) (s : Statistics) (top : TopTree) (instance anchor : List ℕ) → IsValidTop q s.indexed top
+    → IsVectorOf q instance → IsVectorOf q anchor
     → GrowsWithin instance anchor (top_cost q s instance top) (top_cost q s anchor top)
 
 abbrev pub LeastGrowthLaw : Type 0
 LeastGrowthLaw =
-    (q : Statement) (s : Statistics) (instance anchor : List ℕ) (least_at_instance least_at_anchor : ℕ) → IsVectorOf q instance → IsVectorOf q anchor
-    → IsLeastCost q s instance least_at_instance → IsLeastCost q s anchor least_at_anchor → GrowsWithin instance anchor least_at_instance least_at_anchor
+    (q : Statement) (s : Statistics) (instance anchor : List ℕ) (least_at_instance least_at_anchor : ℕ)
+    → IsVectorOf q instance → IsVectorOf q anchor
+    → IsLeastCost q s instance least_at_instance → IsLeastCost q s anchor least_at_anchor
+    → GrowsWithin instance anchor least_at_instance least_at_anchor
 
 abbrev pub LowerBoundLaw : Type 0
 LowerBoundLaw =
-    (q : Statement) (s : Statistics) (vector : List ℕ) (table : Table) (least : ℕ) (top : TopTree) → IsFeasible q s vector table → FitsTable q s vector table least
+    (q : Statement) (s : Statistics) (vector : List ℕ) (table : Table) (least : ℕ) (top : TopTree)
+    → IsFeasible q s vector table → FitsTable q s vector table least
     → IsValidTop q s.indexed top → least ≤ top_cost q s vector top
 
 abbrev pub TightIsFeasible : Type 0
@@ -59,10 +63,13 @@ pub record CostsFit (q : Statement) (s : Statistics) (vector : List ℕ) : Type 
   pub cells : (sorted : Bool) (set cost : ℕ) → IsTightCell q s vector sorted set (Some cost) → IsCost cost
 
 abbrev pub CostRangeLaw : Type 0
-CostRangeLaw = (q : Statement) (s : Statistics) (vector : List ℕ) → IsSoundQuery q → IsSoundStats q s → IsSoundVector q s vector → CostsFit q s vector
+CostRangeLaw =
+    (q : Statement) (s : Statistics) (vector : List ℕ) → IsSoundQuery q → IsSoundStats q s → IsSoundVector q s vector
+    → CostsFit q s vector
 
 -- a valid top to be used again at the instance, and the least costs there and at the anchor
-pub record IsReuse (q : Statement) (s : Statistics) (top : TopTree) (instance anchor : List ℕ) (least_at_instance least_at_anchor : ℕ) : Type 0 where
+pub record IsReuse (q : Statement) (s : Statistics) (top : TopTree) (instance anchor : List ℕ)
+    (least_at_instance least_at_anchor : ℕ) : Type 0 where
   pub valid : IsValidTop q s.indexed top
   pub instance_vector : IsVectorOf q instance
   pub anchor_vector : IsVectorOf q anchor
@@ -73,10 +80,14 @@ pub record IsReuse (q : Statement) (s : Statistics) (top : TopTree) (instance an
 -- where a check passes, the cost at the instance is within the ratio of the least cost there
 abbrev pub SelectivityCheckLaw : Type 0
 SelectivityCheckLaw =
-    (q : Statement) (s : Statistics) (top : TopTree) (instance anchor : List ℕ) (num den least_at_instance least_at_anchor : ℕ) → IsReuse q s top instance anchor least_at_instance least_at_anchor
-    → PassesSelectivityCheck num den (top_cost q s anchor top) least_at_anchor anchor instance → top_cost q s instance top * den ≤ num * least_at_instance
+    (q : Statement) (s : Statistics) (top : TopTree) (instance anchor : List ℕ)
+    (num den least_at_instance least_at_anchor : ℕ) → IsReuse q s top instance anchor least_at_instance least_at_anchor
+    → PassesSelectivityCheck num den (top_cost q s anchor top) least_at_anchor anchor instance
+    → top_cost q s instance top * den ≤ num * least_at_instance
 
 abbrev pub CostCheckLaw : Type 0
 CostCheckLaw =
-    (q : Statement) (s : Statistics) (top : TopTree) (instance anchor : List ℕ) (num den least_at_instance least_at_anchor : ℕ) → IsReuse q s top instance anchor least_at_instance least_at_anchor
-    → PassesCostCheck num den (top_cost q s instance top) least_at_anchor anchor instance → top_cost q s instance top * den ≤ num * least_at_instance
+    (q : Statement) (s : Statistics) (top : TopTree) (instance anchor : List ℕ)
+    (num den least_at_instance least_at_anchor : ℕ) → IsReuse q s top instance anchor least_at_instance least_at_anchor
+    → PassesCostCheck num den (top_cost q s instance top) least_at_anchor anchor instance
+    → top_cost q s instance top * den ≤ num * least_at_instance

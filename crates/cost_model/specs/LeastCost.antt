@@ -70,11 +70,16 @@ Costs = Bool → Option ℕ
 
 -- no more than what an access of this place costs, if it is the whole set, and what a step that takes in this place
 -- costs over the table's plans of the others
-pub record TakesPlace (q : Statement) (s : Statistics) (vector : List ℕ) (table : Table) (set place : ℕ) (costs : Costs) : Type 0 where
-  pub access : (sorted : Bool) (access : Access) → IsValidAccess q s.indexed access → place_of access ≡ place → one place ≡ set
-      → (IsTrue sorted → IsTrue (is_sorted_access q access)) → AtMost (costs sorted) (COST_SCALE * access_unit q s vector access)
-  pub step : (sorted : Bool) (from cost : ℕ) (step : StepKind) → 0 < from → from + one place ≡ set → IsValidStep q s.indexed from step
-      → place_entering step ≡ place → AtMost (table sorted from) cost → AtMost (costs sorted) (cost + step_cost q s vector from step)
+pub record TakesPlace (q : Statement) (s : Statistics) (vector : List ℕ) (table : Table) (set place : ℕ)
+    (costs : Costs) : Type 0 where
+  pub access : (sorted : Bool) (access : Access) → IsValidAccess q s.indexed access → place_of access ≡ place
+      → one place ≡ set
+      → (IsTrue sorted → IsTrue (is_sorted_access q access))
+      → AtMost (costs sorted) (COST_SCALE * access_unit q s vector access)
+  pub step : (sorted : Bool) (from cost : ℕ) (step : StepKind) → 0 < from → from + one place ≡ set
+      → IsValidStep q s.indexed from step
+      → place_entering step ≡ place → AtMost (table sorted from) cost
+      → AtMost (costs sorted) (cost + step_cost q s vector from step)
 
 -- no more than what a hash join with this inner side costs, over the table's plans of both sides
 abbrev pub TakesSplit : Statement → Statistics → List ℕ → Table → ℕ → ℕ → Costs → Type 0
@@ -91,7 +96,8 @@ TakesSort q s vector set costs =
 
 -- the numbers may stand for the set: none is above what a last access, step, hash join or sort makes of the table's
 -- plans of fewer places
-pub record IsFeasiblePotential (q : Statement) (s : Statistics) (vector : List ℕ) (table : Table) (set : ℕ) (costs : Costs) : Type 0 where
+pub record IsFeasiblePotential (q : Statement) (s : Statistics) (vector : List ℕ) (table : Table) (set : ℕ)
+    (costs : Costs) : Type 0 where
   pub places : (place : ℕ) → place < length q.places → TakesPlace q s vector table set place costs
   pub splits : (right : ℕ) → 0 < right → right < set → TakesSplit q s vector table set right costs
   pub sort : TakesSort q s vector set costs
@@ -109,5 +115,7 @@ whole_set q = all_below (length q.places)
 -- the number is at most what a top makes of the cells of all places
 pub record FitsTable (q : Statement) (s : Statistics) (vector : List ℕ) (table : Table) (least : ℕ) : Type 0 where
   pub rows : (cost : ℕ) → is_grouped q ≡ false → AtMost (table (wants_order q) (whole_set q)) cost → least ≤ cost
-  pub sorted_groups : (cost : ℕ) → is_grouped q ≡ true → AtMost (table true (whole_set q)) cost → least ≤ cost + s.weights.row * card_of q s vector (whole_set q)
-  pub hash_groups : (cost : ℕ) → is_grouped q ≡ true → AtMost (table false (whole_set q)) cost → least ≤ cost + s.weights.hash * card_of q s vector (whole_set q)
+  pub sorted_groups : (cost : ℕ) → is_grouped q ≡ true → AtMost (table true (whole_set q)) cost
+      → least ≤ cost + s.weights.row * card_of q s vector (whole_set q)
+  pub hash_groups : (cost : ℕ) → is_grouped q ≡ true → AtMost (table false (whole_set q)) cost
+      → least ≤ cost + s.weights.hash * card_of q s vector (whole_set q)

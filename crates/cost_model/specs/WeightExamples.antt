@@ -22,9 +22,12 @@ grouped =
     statement_with
     (table_of (codes "a") (codes "x" ∷ codes "y" ∷ []) ∷ table_of (codes "b") (codes "x" ∷ codes "z" ∷ [])
     ∷ table_of (codes "c") (codes "z" ∷ codes "w" ∷ []) ∷ table_of (codes "d") (codes "w" ∷ []) ∷ [])
-    (record { at = column_of 0 1; test = test.Lt (operand.Literal (Int (pos 60))) } ∷ record { at = column_of 1 1; test = test.Lt (operand.Param 0) }
-    ∷ record { at = column_of 0 1; test = test.Gt (operand.Literal (Int (pos 10))) } ∷ record { at = column_of 3 0; test = test.Eq (operand.Literal (Int (pos 3))) } ∷ [])
-    (edge_of 0 0 1 0 ∷ edge_of 1 1 2 0 ∷ edge_of 2 1 3 0 ∷ []) (item.Column (column_of 0 0) ∷ []) (column_of 0 0 ∷ []) []
+    (record { at = column_of 0 1; test = test.Lt (operand.Literal (Int (pos 60))) }
+    ∷ record { at = column_of 1 1; test = test.Lt (operand.Param 0) }
+    ∷ record { at = column_of 0 1; test = test.Gt (operand.Literal (Int (pos 10))) }
+    ∷ record { at = column_of 3 0; test = test.Eq (operand.Literal (Int (pos 3))) } ∷ [])
+    (edge_of 0 0 1 0 ∷ edge_of 1 1 2 0 ∷ edge_of 2 1 3 0 ∷ []) (item.Column (column_of 0 0) ∷ [])
+    (column_of 0 0 ∷ []) []
 
 weighed : Statistics
 weighed = record {
@@ -38,7 +41,8 @@ weighed = record {
 }
 
 -- 3 * 100; 7 * 7 + 5 * 60 by the fixed predicate's own count; 7 * 10 + 5 * 200 by the vector; 7 * 7 + 5 * 100
-units : map (access_unit grouped weighed (200 ∷ [])) (Seq 0 ∷ Range 0 1 0 ∷ Range 1 1 1 ∷ Full 0 0 ∷ []) ≡ 300 ∷ 349 ∷ 1070 ∷ 549 ∷ []
+units : map (access_unit grouped weighed (200 ∷ [])) (Seq 0 ∷ Range 0 1 0 ∷ Range 1 1 1 ∷ Full 0 0 ∷ [])
+    ≡ 300 ∷ 349 ∷ 1070 ∷ 549 ∷ []
 unfolding grouped weighed table_of edge_of digits digits_within
 units = refl
 
@@ -59,14 +63,15 @@ both_sides = HashJoin probed last_two 1
 
 -- a scan, a probe, nested loops over each kind of access, a hash join of two scans, and one of two composite sides
 plans : map (plan_cost grouped weighed (200 ∷ []))
-    (Base (Seq 0) ∷ probed ∷ Join probed (Loop (Seq 2)) ∷ Join (Base (Seq 0)) (Loop (Range 1 1 1)) ∷ Join (Base (Seq 0)) (Loop (Full 2 1))
-    ∷ last_two ∷ both_sides ∷ Sort probed ∷ [])
+    (Base (Seq 0) ∷ probed ∷ Join probed (Loop (Seq 2)) ∷ Join (Base (Seq 0)) (Loop (Range 1 1 1))
+    ∷ Join (Base (Seq 0)) (Loop (Full 2 1)) ∷ last_two ∷ both_sides ∷ Sort probed ∷ [])
     ≡ 329853488332800 ∷ 5864062014807600 ∷ 16084284383487400 ∷ 36870289918090800 ∷ 30742345112616960
     ∷ 2957686278717440 ∷ 14397842977250240 ∷ 22063533330736800 ∷ []
 unfolding grouped weighed table_of edge_of probed last_two both_sides card_of kappa digits digits_within
 plans = refl
 
-tops : map (top_cost grouped weighed (200 ∷ [])) (Rows both_sides ∷ SortedGroups (Sort both_sides) ∷ HashGroups both_sides ∷ [])
+tops : map (top_cost grouped weighed (200 ∷ []))
+    (Rows both_sides ∷ SortedGroups (Sort both_sides) ∷ HashGroups both_sides ∷ [])
     ≡ 14397842977250240 ∷ 93981541749666240 ∷ 16701581625925440 ∷ []
 unfolding grouped weighed table_of edge_of probed last_two both_sides card_of kappa digits digits_within
 tops = refl

@@ -6,12 +6,14 @@ pub fn a_least_cost_exists()
     ensures { LeastCostLaw }
 {}
 
-/// Every valid plan's cost grows by at most the growth of the selectivities, and shrinks by at most their shrinking.
+/// Every valid plan's cost grows by at most the growth of the selectivities, and shrinks by at most
+/// their shrinking.
 pub fn cost_grows_within_selectivities()
     ensures { GrowthLaw }
 {}
 
-/// The least cost grows by at most the growth of the selectivities, and shrinks by at most their shrinking.
+/// The least cost grows by at most the growth of the selectivities, and shrinks by at most their
+/// shrinking.
 pub fn least_cost_grows_within_selectivities()
     ensures { LeastGrowthLaw }
 {}
@@ -26,7 +28,8 @@ pub fn tight_is_feasible()
     ensures { TightIsFeasible }
 {}
 
-/// With sound statistics and a sound vector every valid plan, and every cell of a tight table, costs from 1 to below 2^124.
+/// With sound statistics and a sound vector every valid plan, and every cell of a tight table,
+/// costs from 1 to below 2^124.
 pub fn costs_fit()
     ensures { CostRangeLaw }
 {}
