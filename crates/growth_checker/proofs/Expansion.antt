@@ -8,7 +8,7 @@ use Rattle.cost_polynomials.specs.Polynomial.{Term, value_of, add_term, gathered
 use Rattle.cost_polynomials.proofs.Terms.{AreTerms, add_cases, terms_rising, terms_products, rising_gathered, some_gathered_new, some_products, large_gathered_new, large_gathered_old}
 use Rattle.cost_polynomials.proofs.Evaluation.{large_value}
 use Rattle.cost_polynomials.proofs.Values.{value_constant, value_sel, value_gathered, value_product}
-use Rattle.growth_checker.specs.Expression.{Formula, Constant, Selectivity, Plus, Times, expanded, mentions, shares, value_at, IsSound, IsUnshared, IsVectorOf}
+use Rattle.growth_checker.specs.Expression.{Formula, Constant, Selectivity, Plus, Times, expanded, mentions, shares, value_at, IsSound, IsUnshared, HasSelectivities}
 use Rattle.growth_checker.specs.Sharing.{has, AreProductsApart}
 use Rattle.growth_checker.proofs.Sets.{has-or, has-one, has-zero, has_from_bit, sets_apart}
 
@@ -68,7 +68,7 @@ numbers_within these [] s h w = tt
 numbers_within these (t ∷ ts) s h w = ((λ i e. h i (w.0 i (has_from_bit t.0 i e))), numbers_within these ts s h w.1)
 
 -- a vector of the expression serves the expanded form
-pub vector_of_expanded : (f : Formula) (s : List ℕ) → IsVectorOf f s → IsVectorFor (expanded f) s
+pub vector_of_expanded : (f : Formula) (s : List ℕ) → HasSelectivities f s → IsVectorFor (expanded f) s
 vector_of_expanded f s h = All-from_recursion (λ t. HasNumbers t.0 s) (expanded f) (numbers_within (mentions f) (expanded f) s h (within_expanded f))
 
 -- tests that are never true together
@@ -184,7 +184,7 @@ pub large_product_right : (left right : Formula) → IsSound left → HasLarge (
 large_product_right left right s h = large_gathered_new (pair_products (expanded left) (expanded right)) [] (large_products_right (expanded left) (expanded right) (terms_expanded left s) (some_expanded left) h)
 
 -- an expression whose expanded form has a large coefficient is large at every vector
-pub large_value_at : (f : Formula) (s : List ℕ) → IsUnshared f → IsVectorOf f s → HasLarge (expanded f) → 2 ^ 128 ≤ value_at f s
+pub large_value_at : (f : Formula) (s : List ℕ) → IsUnshared f → HasSelectivities f s → HasLarge (expanded f) → 2 ^ 128 ≤ value_at f s
 large_value_at f s u v h =
     let e = value_expanded f s (apart_from_unshared f u) in
     let big = large_value (expanded f) s (vector_of_expanded f s v) h in

@@ -61,5 +61,5 @@ pub record IsFirstShared (f : Formula) (i : ℕ) : Type 0 where
   pub none_before : (j : ℕ) → j < i → shares f j ≡ false
 
 -- each selectivity of the expression has a number, of at least 1
-abbrev pub IsVectorOf : Formula → List ℕ → Type 0
-IsVectorOf f s = (i : ℕ) → mentions f i ≡ true → 1 ≤ slice_index s i
+abbrev pub HasSelectivities : Formula → List ℕ → Type 0
+HasSelectivities f s = (i : ℕ) → mentions f i ≡ true → 1 ≤ slice_index s i

@@ -12,4 +12,5 @@ abbrev pub AreProductsApart : Formula → Type 0
 AreProductsApart (Constant n) = Unit {0}
 AreProductsApart (Selectivity i) = Unit {0}
 AreProductsApart (Plus left right) = AreProductsApart left × AreProductsApart right
-AreProductsApart (Times left right) = AreProductsApart left × AreProductsApart right × ((i : ℕ) → (mentions left i && mentions right i) ≡ false)
+AreProductsApart (Times left right) =
+    AreProductsApart left × AreProductsApart right × ((i : ℕ) → (mentions left i && mentions right i) ≡ false)

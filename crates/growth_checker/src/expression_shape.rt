@@ -6,7 +6,7 @@
 
 ghost use Rattle.std.specs.Prelude.{◌≡◌, ℕ, List, IfOk, IsErrOf, OnOk};
 ghost use Rattle.cost_polynomials.specs.Polynomial.{AllFit, HasLarge, IsVectorFor, value_of};
-ghost use Rattle.growth_checker.specs.Expression.{expanded, formula, IsFirstShared, IsSound, IsUnshared, IsVectorOf, mentions, shares, value_at};
+ghost use Rattle.growth_checker.specs.Expression.{expanded, formula, IsFirstShared, IsSound, IsUnshared, HasSelectivities, mentions, shares, value_at};
 ghost use Rattle.growth_checker.specs.Sharing.{AreProductsApart, has};
 
 use crate::Expr;
@@ -93,7 +93,7 @@ pub fn shape(alloc: Global, e: &Expr) -> Result<Poly, ShapeFault>
     ensures value { IfOk result (λ p. (s : List ℕ) → value_of p s ≡ value_at (formula e.now) s) }
     ensures terms { IfOk result (λ p. p ≡ expanded (formula e.now)) }
     ensures vectors { IfOk result (λ p. (s : List ℕ)
-        → IsVectorOf (formula e.now) s → IsVectorFor p s) }
+        → HasSelectivities (formula e.now) s → IsVectorFor p s) }
 
     // Of these three, exactly one holds of an expression.
     ensures ok { OnOk result (IsUnshared (formula e.now) × AllFit (expanded (formula e.now))) }

@@ -14,7 +14,7 @@ use Rattle.plan_trees.specs.Statistics.{Statistics, IsSoundStats, selectivity_pl
 use Rattle.plan_trees.specs.Trees.{Tree, Base, Join, HashJoin, Sort, TopTree, Rows, SortedGroups, HashGroups, place_of, place_entering, places_of}
 use Rattle.plan_trees.proofs.SoundParts.{access_in_range}
 use Rattle.cost_polynomials.specs.Polynomial.{HasLarge}
-use Rattle.growth_checker.specs.Expression.{Formula, Constant, Selectivity, Plus, Times, mentions, expanded, value_at, IsVectorOf}
+use Rattle.growth_checker.specs.Expression.{Formula, Constant, Selectivity, Plus, Times, mentions, expanded, value_at, HasSelectivities}
 use Rattle.growth_checker.proofs.Expansion.{large_value_at}
 use Rattle.cost_model.specs.Cardinalities.{kappa}
 use Rattle.cost_model.specs.Costs.{look_up_cost, edge_fan, top_cost}
@@ -200,7 +200,7 @@ top_shape q s top h k valid = top_shape_of q s top (record { query = h; stats = 
 -- The polynomial.
 
 -- a vector with a number of at least 1 for each selectivity serves the expression
-pub counts_serve : (q : Statement) (vector : List ℕ) (f : Formula) → IsCostFormula (selectivity_count q.preds) f → length vector ≡ selectivity_count q.preds → All (λ count. 1 ≤ count) vector → IsVectorOf f vector
+pub counts_serve : (q : Statement) (vector : List ℕ) (f : Formula) → IsCostFormula (selectivity_count q.preds) f → length vector ≡ selectivity_count q.preds → All (λ count. 1 ≤ count) vector → HasSelectivities f vector
 counts_serve q vector f h each some = λ i e. let less = h.within i e in some i 0 (omega arith)
 
 -- a coefficient that doesn't fit would be at most the cost where all selectivities are 1
