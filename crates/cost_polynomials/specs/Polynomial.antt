@@ -60,7 +60,8 @@ pub record IsPolynomial (ts : List Term) : Type 0 where
 -- one term more: where its set has a term already, the coefficients are added
 abbrev pub add_term : Term → List Term → List Term
 add_term t [] = t ∷ []
-add_term t (u ∷ us) = (if nat_lt t.0 u.0 then t ∷ u ∷ us else (if t.0 == u.0 then (t.0, t.1 + u.1) ∷ us else u ∷ add_term t us))
+add_term t (u ∷ us) =
+    (if nat_lt t.0 u.0 then t ∷ u ∷ us else (if t.0 == u.0 then (t.0, t.1 + u.1) ∷ us else u ∷ add_term t us))
 
 -- many terms more
 abbrev pub gathered : List Term → List Term → List Term

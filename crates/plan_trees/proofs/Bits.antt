@@ -9,7 +9,7 @@ use Rattle.std.proofs.lemmas.Nat.Bits.{and_pow, bit_at-lt, bit_at-pow_same, bit_
 use Rattle.plan_trees.specs.PlaceSets.{has, one, are_apart}
 
 -- a number below 2 ^ width has no bit from there on
-pub no_bit_past : (width number bit : ℕ) → number < 2 ^ width → width ≤ bit → (number / 2 ^ bit % 2 == 1) ≡ false
+pub no_bit_past : (width number bit : ℕ) → number < 2 ^ width → width ≤ bit → has number bit ≡ false
 no_bit_past width number bit small past =
     let larger : 2 ^ width ≤ 2 ^ bit = pow-le-pow_right (omega arith) past in
     let none : number / 2 ^ bit ≡ 0 = div-eq_of_lt (omega arith) in

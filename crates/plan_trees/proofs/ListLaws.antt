@@ -1,15 +1,14 @@
 -- How lists of all that is valid grow.
-use Rattle.std.proofs.Common.{ℕ, ◌≡◌, ◌<◌, ◌+◌, ◌⊎◌, inl, inr, List, [], ◌∷◌, ◌++◌, length, slice_get, slice_index_or, Some, refl, sym, ◌∙◌, subst, arith}
+use Rattle.std.proofs.Common.{ℕ, ◌≡◌, ◌<◌, ◌+◌, ◌⊎◌, inl, inr, List, [], ◌∷◌, ◌++◌, length, slice_get, slice_index_or, Some, sym, ◌∙◌, subst, arith}
 use Rattle.std.specs.List.{Contains}
 use Rattle.std.proofs.lemmas.Bool.{cases_lt}
 use Rattle.std.proofs.lemmas.List.Elements.{Contains-append_left, Contains-push, Contains-push_cases}
-use Rattle.std.proofs.lemmas.Option.{slice_get_within, slice_get-get_or}
+use Rattle.std.proofs.lemmas.Option.{slice_get-get_or}
 use Rattle.std.specs.Option.{option_map}
 use Rattle.row_values.specs.Statements.{Statement, IsColumn}
 use Rattle.row_values.specs.declared.statement.Pred.{Pred}
 use Rattle.row_values.specs.declared.statement.ColRef.{ColRef}
-use Rattle.row_values.specs.declared.statement.Edge.{Edge}
-use Rattle.std.proofs.Common.{Option, None, IsSomeAnd}
+use Rattle.std.proofs.Common.{Option, None}
 use Rattle.plan_trees.specs.declared.plans.Access.{Access}
 use Rattle.plan_trees.specs.declared.plans.Access.TheVariants.{Seq, Range, Full}
 use Rattle.plan_trees.specs.declared.plans.StepKind.{StepKind}
@@ -17,6 +16,7 @@ use Rattle.plan_trees.specs.declared.plans.StepKind.TheVariants.{Loop, Probe}
 use Rattle.plan_trees.specs.PlanSpace.{column_of}
 use Rattle.plan_trees.specs.Trees.{place_of}
 use Rattle.plan_trees.specs.Lists.{GainsAll, IsListOf, IsAccessOf, IsStepInto, IsRangeBefore, IsRangeBy, IsFullBefore, IsLoopAmong, IsProbeBefore}
+use Rattle.plan_trees.proofs.SoundParts.{edge_there, pred_there}
 
 -- Gains in general.
 
@@ -125,15 +125,11 @@ no_range_by q indexed place number (Seq t) e h v = h
 no_range_by q indexed place number (Range t column j) e h v = no_pred (slice_get q.preds j) (column_of t column) (let there : slice_get q.preds j ≡ None = rw h.1 e in there) v.0.2
 no_range_by q indexed place number (Full t column) e h v = h
 
-pred_there : (preds : List Pred) (j : ℕ) (at : ColRef) (o : Option Pred) → slice_get preds j ≡ o → option_map (λ p. p.at) o ≡ Some at → j < length preds
-pred_there preds j at None e h = absurd (cc)
-pred_there preds j at (Some pred) e h = slice_get_within preds j pred e
-
 -- each valid access is one of the three kinds
 pub access_kinds : (q : Statement) (indexed : List ℕ) (place columns : ℕ) → ((column : ℕ) → IsColumn q.places (column_of place column) → column < columns)
     → (access : Access) → IsAccessOf q indexed place access → ((access ≡ Seq place) ⊎ IsRangeBefore place (length q.preds) access) ⊎ IsFullBefore place columns access
 access_kinds q indexed place columns h (Seq t) v = inl (inl (let e : t ≡ place = v.1 in cc))
-access_kinds q indexed place columns h (Range t column j) v = inl (inr (v.1, pred_there q.preds j (column_of t column) (slice_get q.preds j) refl v.0.2))
+access_kinds q indexed place columns h (Range t column j) v = inl (inr (v.1, pred_there q.preds j (column_of t column) v.0.2))
 access_kinds q indexed place columns h (Full t column) v = inr (v.1, h column (subst (λ p. IsColumn q.places (column_of p column)) v.1 v.0.0))
 
 -- Steps.
@@ -175,21 +171,14 @@ pub no_probe : (place : ℕ) (step : StepKind) → IsProbeBefore place 0 step �
 no_probe place (Loop access) h = h
 no_probe place (Probe t edge) h = let less = h.1 in absurd (omega arith)
 
-edge_there : (P : Edge → Type 0) (edges : List Edge) (edge : ℕ) (o : Option Edge) → slice_get edges edge ≡ o → IsSomeAnd o P → edge < length edges
-edge_there P edges edge None e h = absurd h
-edge_there P edges edge (Some x) e h = slice_get_within edges edge x e
-
 -- each valid step is a nested loop over a valid access, or a look-up by an edge
 pub step_kinds : (q : Statement) (indexed : List ℕ) (set place : ℕ) (accesses : List Access) → IsListOf (IsAccessOf q indexed place) accesses
     → (step : StepKind) → IsStepInto q indexed set place step → IsLoopAmong accesses (length accesses) step ⊎ IsProbeBefore place (length q.edges) step
 step_kinds q indexed set place accesses h (Loop access) v =
     let k = (h access).1 (v.0.0, v.1) in
     inl (k.0, k.1, slice_get-get_or accesses k.0 access k.1 ∙ (let e = k.2 in cc))
-step_kinds q indexed set place accesses h (Probe t edge) v = inr (v.1, edge_there _ q.edges edge (slice_get q.edges edge) refl v.0.2)
+step_kinds q indexed set place accesses h (Probe t edge) v = inr (v.1, edge_there _ q.edges edge v.0.2)
 
 -- the edge of a valid hash join is there
 pub no_edge : (Fits : ℕ → Type 0) (count edge : ℕ) → ((k : ℕ) → k < count → Fits k → ⊥) → edge < count → Fits edge → ⊥
 no_edge Fits count edge h less fits = h edge less fits
-
-pub edge_counted : (P : Edge → Type 0) (edges : List Edge) (edge : ℕ) → IsSomeAnd (slice_get edges edge) P → edge < length edges
-edge_counted P edges edge h = edge_there P edges edge (slice_get edges edge) refl h

@@ -1,11 +1,6 @@
 -- A valid plan names what is there and is nested at most ten deep, so its spelling is read again.
-use Rattle.std.proofs.Common.{ℕ, ◌≡◌, ◌≤◌, ◌<◌, ◌+◌, ◌*◌, List, length, Bool, true, false, Option, Some, None, slice_get, IsSomeAnd, if◌then◌else◌, refl, sym, subst, arith}
-use Rattle.std.specs.Option.{option_map}
-use Rattle.std.proofs.lemmas.Option.{slice_get_within}
+use Rattle.std.proofs.Common.{ℕ, ◌≡◌, ◌≤◌, ◌<◌, ◌+◌, ◌*◌, List, length, Bool, true, false, if◌then◌else◌, refl, sym, subst, arith}
 use Rattle.row_values.specs.Statements.{Statement, IsSoundQuery}
-use Rattle.row_values.specs.declared.statement.ColRef.{ColRef}
-use Rattle.row_values.specs.declared.statement.Edge.{Edge}
-use Rattle.row_values.specs.declared.statement.Pred.{Pred}
 use Rattle.plan_trees.specs.declared.plans.Access.{Access}
 use Rattle.plan_trees.specs.declared.plans.Access.TheVariants.{Seq, Range, Full}
 use Rattle.plan_trees.specs.declared.plans.StepKind.{StepKind}
@@ -16,32 +11,24 @@ use Rattle.plan_trees.specs.Spelling.{HasAccess, HasStep, HasParts, IsPlanText, 
 use Rattle.plan_trees.specs.Trees.{Tree, Base, Join, HashJoin, Sort, TopTree, place_of, place_entering, places_of, plan_below}
 use Rattle.plan_trees.proofs.Bits.{both_below, with_one_small, one_small}
 use Rattle.plan_trees.proofs.PlaceCounts.{place_count, one_more, one_place, both_places, at_most_five}
-use Rattle.plan_trees.proofs.SoundParts.{access_in_range, step_in_range}
+use Rattle.plan_trees.proofs.SoundParts.{access_in_range, edge_there, pred_there, step_in_range}
 
 -- What it names is there.
 
-pred_there : (preds : List Pred) (j : ℕ) (at : ColRef) (o : Option Pred) → slice_get preds j ≡ o → option_map (λ p. p.at) o ≡ Some at → j < length preds
-pred_there preds j at None e on = cc
-pred_there preds j at (Some pred) e on = slice_get_within preds j pred e
-
-edge_there : (edges : List Edge) (j : ℕ) (P : Edge → Type 0) (o : Option Edge) → slice_get edges j ≡ o → IsSomeAnd o P → j < length edges
-edge_there edges j P None e on = absurd on
-edge_there edges j P (Some edge) e on = slice_get_within edges j edge e
-
 access_there : (q : Statement) (indexed : List ℕ) (access : Access) → IsValidAccess q indexed access → HasAccess q access
 access_there q indexed (Seq t) valid = valid
-access_there q indexed (Range t c j) valid = (valid.0, pred_there q.preds j (column_of t c) (slice_get q.preds j) refl valid.2)
+access_there q indexed (Range t c j) valid = (valid.0, pred_there q.preds j (column_of t c) valid.2)
 access_there q indexed (Full t c) valid = valid.0
 
 step_there : (q : Statement) (indexed : List ℕ) (set : ℕ) (step : StepKind) → IsValidStep q indexed set step → HasStep q step
 step_there q indexed set (Loop access) valid = access_there q indexed access valid.0
-step_there q indexed set (Probe t e) valid = (valid.0, edge_there q.edges e _ (slice_get q.edges e) refl valid.2)
+step_there q indexed set (Probe t e) valid = (valid.0, edge_there _ q.edges e valid.2)
 
 plan_there : (q : Statement) (indexed : List ℕ) (plan : Tree) → IsValidPlan q indexed plan → HasParts q plan
 plan_there q indexed (Base access) valid = access_there q indexed access valid
 plan_there q indexed (Join outer step) valid = (plan_there q indexed outer valid.0, step_there q indexed (places_of outer) step valid.1)
 plan_there q indexed (HashJoin outer inner edge) valid =
-    (plan_there q indexed outer valid.0, plan_there q indexed inner valid.1, edge_there q.edges edge _ (slice_get q.edges edge) refl valid.2.1)
+    (plan_there q indexed outer valid.0, plan_there q indexed inner valid.1, edge_there _ q.edges edge valid.2.1)
 plan_there q indexed (Sort outer) valid = plan_there q indexed outer valid.0
 
 -- It is nested as deep as it has places.

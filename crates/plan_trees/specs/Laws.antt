@@ -15,7 +15,9 @@ SameTopLaw = (a b : TopTree) → IsTrue (same_top a b) ↔ (a ≡ b)
 
 -- where two sets are apart, a place is in their sum exactly where it is in one of them
 abbrev pub UnionLaw : Type 0
-UnionLaw = (left right place : ℕ) → IsTrue (are_apart left right) → has (left + right) place ≡ (has left place || has right place)
+UnionLaw =
+    (left right place : ℕ) → IsTrue (are_apart left right)
+    → has (left + right) place ≡ (has left place || has right place)
 
 -- what comes in the wanted order has the place of each wanted key
 abbrev pub SortedPlanLaw : Type 0
@@ -25,4 +27,5 @@ SortedPlanLaw =
 
 -- a valid plan has two plans for each of its places at most on its longest way down: one reads or joins it, one sorts
 abbrev pub NestingLaw : Type 0
-NestingLaw = (q : Statement) (indexed : List ℕ) (plan : Tree) → IsSoundQuery q → IsValidPlan q indexed plan → nesting plan ≤ 10
+NestingLaw =
+    (q : Statement) (indexed : List ℕ) (plan : Tree) → IsSoundQuery q → IsValidPlan q indexed plan → nesting plan ≤ 10

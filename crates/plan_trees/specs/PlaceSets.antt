@@ -1,7 +1,7 @@
 -- Sets of places: the sum of 2 ^ t over the places t, which are counted from 0 in the order of FROM.
 use Rattle.std.specs.Prelude.{ℕ, ◌-◌, ◌/◌, ◌%◌, ◌^◌, ◌==◌, Bool, bit_and}
 
--- whether the set has this place
+-- whether the set has this place: bit t stands for place t
 abbrev pub has : ℕ → ℕ → Bool
 has set place = set / 2 ^ place % 2 == 1
 

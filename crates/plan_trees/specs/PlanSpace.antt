@@ -50,7 +50,8 @@ IsValidAccess q indexed (Seq place) = place < length q.places
 IsValidAccess q indexed (Range place column pred) =
     IsColumn q.places (column_of place column) × IsTrue (has_index indexed place column)
     × (option_map (λ p. p.at) (slice_get q.preds pred) ≡ Some (column_of place column))
-IsValidAccess q indexed (Full place column) = IsColumn q.places (column_of place column) × IsTrue (has_index indexed place column)
+IsValidAccess q indexed (Full place column) =
+    IsColumn q.places (column_of place column) × IsTrue (has_index indexed place column)
 
 -- the edge joins a place of the set to this place
 abbrev pub joins_to : ℕ → ℕ → Edge → Bool
@@ -66,7 +67,8 @@ abbrev pub IsValidStep : Statement → List ℕ → ℕ → StepKind → Type 0
 IsValidStep q indexed set (Loop access) = IsValidAccess q indexed access × (has set (place_of access) ≡ false)
 IsValidStep q indexed set (Probe place edge) =
     (place < length q.places) × (has set place ≡ false)
-    × IsSomeAnd (slice_get q.edges edge) (λ e. IsTrue (joins_to set place e) × IsTrue (has_index indexed place (column_in place e)))
+    × IsSomeAnd (slice_get q.edges edge)
+    (λ e. IsTrue (joins_to set place e) × IsTrue (has_index indexed place (column_in place e)))
 
 -- the edge connects the two sets: it joins a place of the one to a place of the other
 abbrev pub connects : ℕ → ℕ → Edge → Bool
@@ -101,9 +103,11 @@ abbrev pub IsValidPlan : Statement → List ℕ → Tree → Type 0
 IsValidPlan q indexed (Base access) = IsValidAccess q indexed access
 IsValidPlan q indexed (Join outer step) = IsValidPlan q indexed outer × IsValidStep q indexed (places_of outer) step
 IsValidPlan q indexed (HashJoin outer inner edge) =
-    IsValidPlan q indexed outer × IsValidPlan q indexed inner × IsValidHashJoin q (places_of outer) (places_of inner) edge
+    IsValidPlan q indexed outer × IsValidPlan q indexed inner
+    × IsValidHashJoin q (places_of outer) (places_of inner) edge
 IsValidPlan q indexed (Sort outer) =
-    IsValidPlan q indexed outer × IsTrue (wants_order q) × IsTrue (has_all_keys (places_of outer) (wanted_order q)) × (is_sorted_plan q outer ≡ false)
+    IsValidPlan q indexed outer × IsTrue (wants_order q) × IsTrue (has_all_keys (places_of outer) (wanted_order q))
+    × (is_sorted_plan q outer ≡ false)
 
 -- Tops.
 

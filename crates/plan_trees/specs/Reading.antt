@@ -51,7 +51,8 @@ after_ended end word text = after word text >>= after_byte end
 -- the number of the first of these words that stands at the front with its end; they are counted from this number on
 abbrev pub first_at : ℕ → ℕ → List (List ℕ) → List ℕ → Option (ℕ × List ℕ)
 first_at end number [] text = None
-first_at end number (word ∷ words) text = chosen (after_ended end word text) (λ rest. Some (number, rest)) (first_at end (number + 1) words text)
+first_at end number (word ∷ words) text =
+    chosen (after_ended end word text) (λ rest. Some (number, rest)) (first_at end (number + 1) words text)
 
 abbrev pub alias_words : List Place → List (List ℕ)
 alias_words places = map (λ place. canonical_name place.alias) places
@@ -95,14 +96,16 @@ full_at q text = do
 
 unfoldable pub access_at : Statement → List ℕ → Option (Access × List ℕ)
 access_at q text =
-    chosen (after (codes "seq(") text) (seq_at q) (chosen (after (codes "range(") text) (range_at q) (chosen (after (codes "full(") text) (full_at q) None))
+    chosen (after (codes "seq(") text) (seq_at q)
+    (chosen (after (codes "range(") text) (range_at q) (chosen (after (codes "full(") text) (full_at q) None))
 
 -- Plans.
 
 -- the form of a plan over one plan, and the text behind its bracket
 unfoldable pub form_at : List ℕ → Option (Form × List ℕ)
 form_at text =
-    chosen (after (codes "loop(") text) (λ rest. Some (form.Loop, rest)) (chosen (after (codes "probe(") text) (λ rest. Some (form.Probe, rest))
+    chosen (after (codes "loop(") text) (λ rest. Some (form.Loop, rest))
+    (chosen (after (codes "probe(") text) (λ rest. Some (form.Probe, rest))
     (chosen (after (codes "sort(") text) (λ rest. Some (form.Sort, rest)) None))
 
 -- the plan of this form over an outer plan, from what stands behind that

@@ -39,8 +39,10 @@ number_text number = decimal (number + 1)
 abbrev pub access_text : List Place → Access → List ℕ
 access_text places (Seq place) = codes "seq(" ++ place_text places place ++ codes ")"
 access_text places (Range place column pred) =
-    codes "range(" ++ place_text places place ++ codes "." ++ column_text places place column ++ codes "," ++ number_text pred ++ codes ")"
-access_text places (Full place column) = codes "full(" ++ place_text places place ++ codes "." ++ column_text places place column ++ codes ")"
+    codes "range(" ++ place_text places place ++ codes "." ++ column_text places place column ++ codes ","
+    ++ number_text pred ++ codes ")"
+access_text places (Full place column) =
+    codes "full(" ++ place_text places place ++ codes "." ++ column_text places place column ++ codes ")"
 
 -- the name of a step's form, and what stands behind the outer plan
 abbrev pub step_name : StepKind → List ℕ
@@ -55,7 +57,8 @@ abbrev pub plan_text : List Place → Tree → List ℕ
 plan_text places (Base access) = access_text places access
 plan_text places (Join outer step) = step_name step ++ plan_text places outer ++ step_text places step
 plan_text places (HashJoin outer inner edge) =
-    codes "hash(" ++ plan_text places outer ++ codes "," ++ plan_text places inner ++ codes "," ++ number_text edge ++ codes ")"
+    codes "hash(" ++ plan_text places outer ++ codes "," ++ plan_text places inner ++ codes "," ++ number_text edge
+    ++ codes ")"
 plan_text places (Sort outer) = codes "sort(" ++ plan_text places outer ++ codes ")"
 
 abbrev pub top_text : List Place → TopTree → List ℕ

@@ -19,7 +19,8 @@ pub record Statistics : Type 0 where
 -- a list of numbers, as many as each place has columns
 abbrev pub by_place : List Place → List ℕ → List (List ℕ)
 by_place [] numbers = []
-by_place (place ∷ places) numbers = take (length place.schema) numbers ∷ by_place places (drop (length place.schema) numbers)
+by_place (place ∷ places) numbers =
+    take (length place.schema) numbers ∷ by_place places (drop (length place.schema) numbers)
 
 abbrev pub column_count : List Place → ℕ
 column_count places = sum_by (λ place. length place.schema) places
@@ -36,7 +37,8 @@ selectivities_on place (pred ∷ preds) =
 -- the places of the parameterised predicates, in text order
 abbrev pub selectivity_places : List Pred → List ℕ
 selectivity_places [] = []
-selectivity_places (pred ∷ preds) = if is_parameterised pred then pred.at.place ∷ selectivity_places preds else selectivity_places preds
+selectivity_places (pred ∷ preds) =
+    if is_parameterised pred then pred.at.place ∷ selectivity_places preds else selectivity_places preds
 
 -- the product of the rows of each place, once for each parameterised predicate on it and at least once
 abbrev pub weighted_size : List Pred → ℕ → List ℕ → ℕ
@@ -66,15 +68,18 @@ pub record IsSoundStats (q : Statement) (s : Statistics) : Type 0 where
   pub fan_counts : map length s.fans ≡ map (λ place. length place.schema) q.places
   pub rows : All (IsWithin (2 ^ 20)) s.rows
   pub fixed : (place : ℕ) → place < length q.places → IsWithin (slice_index s.rows place) (slice_index s.fixed place)
-  pub matching : (j : ℕ) (pred : Pred) → slice_get q.preds j ≡ Some pred → IsWithin (slice_index s.rows pred.at.place) (slice_index s.matching j)
+  pub matching : (j : ℕ) (pred : Pred) → slice_get q.preds j ≡ Some pred
+      → IsWithin (slice_index s.rows pred.at.place) (slice_index s.matching j)
   pub distinct : All (λ d. 1 ≤ d) s.distinct
-  pub fans : (place column : ℕ) → place < length q.places → column < length (slice_index_or s.fans place []) → IsWithin (slice_index s.rows place) (fan_at s place column)
+  pub fans : (place column : ℕ) → place < length q.places → column < length (slice_index_or s.fans place [])
+      → IsWithin (slice_index s.rows place) (fan_at s place column)
   pub not_wide : weighted_size q.preds 0 s.rows ≤ 2 ^ 63
 
 -- one count for each parameterised predicate, each from 1 to the rows of its place
 pub record IsSoundVector (q : Statement) (s : Statistics) (vector : List ℕ) : Type 0 where
   pub one_each : length vector ≡ selectivity_count q.preds
-  pub within : (i place : ℕ) → slice_get (selectivity_places q.preds) i ≡ Some place → IsWithin (slice_index s.rows place) (slice_index vector i)
+  pub within : (i place : ℕ) → slice_get (selectivity_places q.preds) i ≡ Some place
+      → IsWithin (slice_index s.rows place) (slice_index vector i)
 
 abbrev pub statistics_of : List Place → List ℕ → List ℕ → List ℕ → List ℕ → List ℕ → List ℕ → Weights → Statistics
 statistics_of places rows fixed matching distinct fans indexed weights =

@@ -1,14 +1,14 @@
 //! Sets of places: a byte in which bit t stands for place t.
 //!
 //! This is the one module that shifts and masks. A statement has at most five places, so a set is below 32.
-ghost use Rattle.std.specs.Prelude.{◌≡◌, ◌<◌, ◌≤◌, ◌+◌, ◌/◌, ◌%◌, ◌^◌, ◌==◌, IsTrue, false};
+ghost use Rattle.std.specs.Prelude.{◌≡◌, ◌<◌, ◌≤◌, ◌+◌, IsTrue, false};
 ghost use Rattle.plan_trees.specs.PlaceSets.{all_below, are_apart as apart_sets, has, one};
 
 use row_values::PLACE_LIMIT;
 
 /// Whether the bit is set; there is none from the 64th on.
 pub(crate) fn has_bit(number: u64, bit: u8) -> bool
-    ensures { result ≡ (number / 2 ^ bit % 2 == 1) }
+    ensures { result ≡ has number bit }
 {
     bit < 64 && (number >> bit) % 2 == 1
 }

@@ -18,13 +18,13 @@ impl Model for Vector {
 
     ghost Value = { List ℕ };
 
-    ghost use Rattle.plan_trees.specs.Padded.{IsVector, padded, vector_back, vector_of};
+    ghost use Rattle.plan_trees.specs.Padded.{IsVector, padded, vector_back, vector_inside};
 
     ghost view = { λ v. take v.count v.numbers };
 
     ghost invariant = { IsVector };
 
-    ghost inverse = { λ xs. vector_of (padded 8 xs) (length xs) };
+    ghost inverse = { λ xs. vector_inside (padded 8 xs) (length xs) };
 
     ghost inverse_ok = { vector_back };
 }

@@ -24,13 +24,13 @@ impl Model for Indexed {
 
     ghost Value = { List ℕ };
 
-    ghost use Rattle.plan_trees.specs.Padded.{IsIndexed, padded, indexed_back, indexed_of};
+    ghost use Rattle.plan_trees.specs.Padded.{IsIndexed, padded, indexed_back, indexed_inside};
 
     ghost view = { λ ix. take ix.count ix.masks };
 
     ghost invariant = { IsIndexed };
 
-    ghost inverse = { λ xs. indexed_of (padded 5 xs) (length xs) };
+    ghost inverse = { λ xs. indexed_inside (padded 5 xs) (length xs) };
 
     ghost inverse_ok = { indexed_back };
 }
