@@ -17,7 +17,7 @@ grow_times {u} {v} {x} {y} k g = record { grows = rw (mul_assoc k x u, mul_assoc
 pub grow_const : {u v : ℕ} (k : ℕ) → u ≤ v → Grows u v k k
 grow_const k h = record { grows = mul-le-mul_left k h }
 
-swapped : (a p b q : ℕ) → (a * p) * (b * q) ≡ (a * b) * (p * q)
+pub swapped : (a p b q : ℕ) → (a * p) * (b * q) ≡ (a * b) * (p * q)
 swapped a p b q = mul_assoc a p (b * q) ∙ ap (λ n. a * n) (mul_left_comm p b q) ∙ sym (mul_assoc a b (p * q))
 
 -- four factors, two by two

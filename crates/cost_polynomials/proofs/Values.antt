@@ -3,6 +3,7 @@ use Rattle.std.proofs.Common.{ℕ, zero, suc, ◌≡◌, ◌+◌, ◌*◌, ◌/�
 use Rattle.std.specs.List.{AllByRecursion}
 use Rattle.std.proofs.lemmas.Nat.{or_disjoint, and_shr, or_shr, and_mod}
 use Rattle.std.proofs.lemmas.List.Elements.{recursion_from_All}
+use Rattle.cost_polynomials.proofs.Growth.{swapped}
 use Rattle.cost_polynomials.specs.Polynomial.{Term, product_over, number_at, value_of, add_term, gathered, times_term, pair_products, AreApart}
 use Rattle.cost_polynomials.proofs.Terms.{add_cases}
 
@@ -34,9 +35,6 @@ one_even m n h =
         | inr b ↦ let both : bit_and 1 1 ≡ 0 = rw (a, b) at lowest in absurd (omega (arith, both))
       ]
     ]
-
-swapped : (a p b q : ℕ) → (a * p) * (b * q) ≡ (a * b) * (p * q)
-swapped a p b q = mul_assoc a p (b * q) ∙ ap (λ n. a * n) (mul_left_comm p b q) ∙ sym (mul_assoc a b (p * q))
 
 factor_l : (m n x : ℕ) → m % 2 ≡ 0 → (if (m + n) % 2 == 1 then x else 1) ≡ (if m % 2 == 1 then x else 1) * (if n % 2 == 1 then x else 1)
 factor_l m n x h =

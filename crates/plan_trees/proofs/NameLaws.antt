@@ -2,7 +2,7 @@
 use Rattle.std.proofs.Common.{ℕ, ◌≡◌, ◌==◌, ◌&&◌, ◌||◌, not, List, [], ◌∷◌, ◌++◌, Bool, true, false, if◌then◌else◌, refl, sym, ap, ◌∙◌, subst, append_assoc, true≢false}
 use Rattle.std.specs.Char.{is_ascii_alphanumeric, is_ascii_digit}
 use Rattle.std.specs.List.{flat_map}
-use Rattle.std.proofs.lemmas.Bool.{eqb-true}
+use Rattle.std.proofs.lemmas.Bool.{and_parts, eqb-true}
 use Rattle.row_values.specs.Names.{canonical_name, doubled, quoted_name}
 use Rattle.row_values.specs.Plain.{are_name_bytes, is_plain, is_reserved}
 
@@ -29,29 +29,21 @@ end_no_quote end bracket = refl
 end_no_quote end comma = refl
 end_no_quote end dot = refl
 
-and_left : (a b : Bool) → (a && b) ≡ true → a ≡ true
-and_left true b h = refl
-and_left false b h = h
-
-and_right : (a b : Bool) → (a && b) ≡ true → b ≡ true
-and_right true b h = h
-and_right false b h = absurd (true≢false (sym h))
-
 -- words of name bytes
 pub plain_words : (end : ℕ) (a b r s : List ℕ) → IsEnd end → are_name_bytes a ≡ true → are_name_bytes b ≡ true → a ++ end ∷ r ≡ b ++ end ∷ s → Same a b r s
 plain_words end [] [] r s ends x y e = record { word = refl; rest = cc }
 plain_words end [] (c ∷ b) r s ends x y e =
     let head : end ≡ c = cc in
-    let named : is_name_byte end ≡ true = rw head (and_left (is_name_byte c) (are_name_bytes b) y) in
+    let named : is_name_byte end ≡ true = rw head (and_parts (is_name_byte c) (are_name_bytes b) y).0 in
     absurd (true≢false (sym named ∙ end_no_name end ends))
 plain_words end (c ∷ a) [] r s ends x y e =
     let head : c ≡ end = cc in
-    let named : is_name_byte end ≡ true = rw (← head) (and_left (is_name_byte c) (are_name_bytes a) x) in
+    let named : is_name_byte end ≡ true = rw (← head) (and_parts (is_name_byte c) (are_name_bytes a) x).0 in
     absurd (true≢false (sym named ∙ end_no_name end ends))
 plain_words end (c ∷ a) (d ∷ b) r s ends x y e =
     let head : c ≡ d = cc in
     let tail : a ++ end ∷ r ≡ b ++ end ∷ s = cc in
-    let same = plain_words end a b r s ends (and_right (is_name_byte c) (are_name_bytes a) x) (and_right (is_name_byte d) (are_name_bytes b) y) tail in
+    let same = plain_words end a b r s ends (and_parts (is_name_byte c) (are_name_bytes a) x).1 (and_parts (is_name_byte d) (are_name_bytes b) y).1 tail in
     let tails : a ≡ b = same.word in
     record { word = cc; rest = same.rest }
 
@@ -99,14 +91,14 @@ quoted_words end (c ∷ a) (d ∷ b) r s other e =
 plain_bytes : (a : List ℕ) → is_plain a ≡ true → are_name_bytes a ≡ true
 plain_bytes [] plain = absurd (true≢false (sym plain))
 plain_bytes (c ∷ a) plain =
-    and_right (not (is_ascii_digit c)) (are_name_bytes (c ∷ a)) (and_left (not (is_ascii_digit c) && are_name_bytes (c ∷ a)) (not (is_reserved (c ∷ a))) plain)
+    (and_parts (not (is_ascii_digit c)) (are_name_bytes (c ∷ a)) (and_parts (not (is_ascii_digit c) && are_name_bytes (c ∷ a)) (not (is_reserved (c ∷ a))) plain).0).1
 
 -- a plain name doesn't begin with a quote
 plain_no_quote : (a t u : List ℕ) → is_plain a ≡ true → a ++ t ≡ 34 ∷ u → ⊥
 plain_no_quote [] t u plain e = true≢false (sym plain)
 plain_no_quote (c ∷ a) t u plain e =
     let head : c ≡ 34 = cc in
-    let named : is_name_byte c ≡ true = and_left (is_name_byte c) (are_name_bytes a) (plain_bytes (c ∷ a) plain) in
+    let named : is_name_byte c ≡ true = (and_parts (is_name_byte c) (are_name_bytes a) (plain_bytes (c ∷ a) plain)).0 in
     let quote : is_name_byte 34 ≡ true = subst (λ (byte : ℕ). is_name_byte byte ≡ true) head named in
     true≢false (sym quote)
 

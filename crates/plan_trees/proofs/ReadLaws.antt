@@ -1,6 +1,7 @@
 -- Reading and spelling are inverse: what is read is spelled so, and what is spelled so is read.
 use Rattle.std.proofs.Common.{ℕ, zero, suc, ◌≡◌, ◌+◌, ◌&&◌, ◌||◌, not, List, [], ◌∷◌, ◌++◌, map, Bool, true, false, Option, Some, None, slice_get, refl, sym, ap, ◌∙◌, subst, arith, add-one, true≢false}
 use Rattle.std.specs.Str.{bytes_eq}
+use Rattle.std.proofs.lemmas.Bool.{and_parts, not-true, or_parts}
 use Rattle.std.proofs.lemmas.Grind.{common_steps}
 use Rattle.std.proofs.lemmas.Slice.Eq.{bytes_eq-Decides}
 use Rattle.row_values.specs.Names.{canonical_name}
@@ -83,35 +84,15 @@ abbrev pub differ : {X : Type 0} → (X → List ℕ) → List X → Bool
 differ name [] = true
 differ name (x ∷ xs) = not (is_in name (name x) xs) && differ name xs
 
-or_false_left : (a b : Bool) → (a || b) ≡ false → a ≡ false
-or_false_left true b e = e
-or_false_left false b e = refl
-
-or_false_right : (a b : Bool) → (a || b) ≡ false → b ≡ false
-or_false_right true b e = absurd (true≢false e)
-or_false_right false b e = e
-
-not_true : (a : Bool) → not a ≡ true → a ≡ false
-not_true true e = sym e
-not_true false e = refl
-
-and_left : (a b : Bool) → (a && b) ≡ true → a ≡ true
-and_left true b h = refl
-and_left false b h = h
-
-and_right : (a b : Bool) → (a && b) ≡ true → b ≡ true
-and_right true b h = h
-and_right false b h = absurd (true≢false (sym h))
-
 -- what isn't in a list stands at no place of it
 not_at : {X : Type 0} (name : X → List ℕ) (wanted : List ℕ) (xs : List X) (k : ℕ) (y : X) → is_in name wanted xs ≡ false → slice_get xs k ≡ Some y → name y ≡ wanted → ⊥
 not_at name wanted [] k y absent there same = cc
 not_at name wanted (x ∷ xs) zero y absent there same =
     let head : x ≡ y = cc in
     let here : name x ≡ wanted = ap name head ∙ same in
-    true≢false (sym ((bytes_eq-Decides (name x) wanted).1 here) ∙ or_false_left (bytes_eq (name x) wanted) (is_in name wanted xs) absent)
+    true≢false (sym ((bytes_eq-Decides (name x) wanted).1 here) ∙ (or_parts (bytes_eq (name x) wanted) (is_in name wanted xs) absent).0)
 not_at name wanted (x ∷ xs) (suc k) y absent there same =
-    not_at name wanted xs k y (or_false_right (bytes_eq (name x) wanted) (is_in name wanted xs) absent) there same
+    not_at name wanted xs k y (or_parts (bytes_eq (name x) wanted) (is_in name wanted xs) absent).1 there same
 
 pub nothing_front : {A : Type 0} (o : Option (List ℕ)) (read : List ℕ → Option A) (other : Option A) → ((rest : List ℕ) → o ≡ Some rest → ⊥) → chosen o read other ≡ other
 nothing_front None read other never = refl
@@ -128,8 +109,8 @@ first_front {X = X} name end (x ∷ xs) number zero y rest ends apart there =
     rw front (ap (λ (n : ℕ). Some (n, rest)) (omega arith))
 first_front name end (x ∷ xs) number (suc k) y rest ends apart there =
     let text : List ℕ = canonical_name (name y) ++ end ∷ rest in
-    let absent : is_in name (name x) xs ≡ false = not_true (is_in name (name x) xs) (and_left (not (is_in name (name x) xs)) (differ name xs) apart) in
-    let more = first_front name end xs (number + 1) k y rest ends (and_right (not (is_in name (name x) xs)) (differ name xs) apart) there in
+    let absent : is_in name (name x) xs ≡ false = not-true (is_in name (name x) xs) (and_parts (not (is_in name (name x) xs)) (differ name xs) apart).0 in
+    let more = first_front name end xs (number + 1) k y rest ends (and_parts (not (is_in name (name x) xs)) (differ name xs) apart).1 there in
     nothing_front (after_ended end (canonical_name (name x)) text) (λ r. Some (number, r)) (first_at end (number + 1) (map (λ z. canonical_name (name z)) xs) text)
     (λ r e. not_at name (name x) xs k y absent there (same_name end (name y) (name x) rest r ends (ended_taken end (canonical_name (name x)) text r e)).word)
     ∙ more ∙ ap (λ (n : ℕ). Some (n, rest)) (omega arith)
