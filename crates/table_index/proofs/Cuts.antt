@@ -25,7 +25,8 @@ Cut p (x ∷ xs) zero = (p x ≡ false) × Cut p xs zero
 Cut p (x ∷ xs) (suc k) = (p x ≡ true) × Cut p xs k
 
 -- what `partition_point` finds is a cut
-pub cut_from_point : {X : Type 0} (p : X → Bool) (xs : List X) (k : ℕ) → k ≤ length xs → IsPartitionPoint (λ y. p y ≡ true) (λ y. p y ≡ false) xs k → Cut p xs k
+pub cut_from_point : {X : Type 0} (p : X → Bool) (xs : List X) (k : ℕ) → k ≤ length xs
+    → IsPartitionPoint (λ y. p y ≡ true) (λ y. p y ≡ false) xs k → Cut p xs k
 cut_from_point p [] zero l h = tt
 cut_from_point p [] (suc k) l h = absurd (omega (arith, l))
 cut_from_point p (x ∷ xs) zero l h =
@@ -47,7 +48,8 @@ cut_counts p xs k c = kept p xs k c ∙ length-filter p xs
     kept p (x ∷ xs) (suc k) c = rw c.0 (ap suc (kept p xs k c.1))
 
 -- What lies between: neither the front that fails the first test nor the rest that fails the second.
-between : {X : Type 0} (low high : X → Bool) (xs : List X) (first end n : ℕ) → Cut (λ x. not (low x)) xs first → Cut high xs end → n ≡ end - first
+between : {X : Type 0} (low high : X → Bool) (xs : List X) (first end n : ℕ) → Cut (λ x. not (low x)) xs first
+    → Cut high xs end → n ≡ end - first
     → take n (drop first xs) ≡ filter (λ x. low x && high x) xs
 between low high [] zero zero n a b e = let none : n ≡ 0 = omega (arith, e) in rw none refl
 between low high [] (suc first) end n a b e = absurd a
@@ -68,6 +70,7 @@ between low high (x ∷ xs) (suc first) (suc end) n a b e =
     let more = between low high xs first end n a.1 b.1 (omega (arith, e)) in
     rw (fails (low x) a.0) more
 
-pub between_cuts : {X : Type 0} (low high : X → Bool) (xs : List X) (first end : ℕ) → Cut (λ x. not (low x)) xs first → Cut high xs end
+pub between_cuts : {X : Type 0} (low high : X → Bool) (xs : List X) (first end : ℕ) → Cut (λ x. not (low x)) xs first
+    → Cut high xs end
     → slice_range xs first (max end first) ≡ filter (λ x. low x && high x) xs
 between_cuts low high xs first end a b = between low high xs first end (max end first - first) a b (omega arith)

@@ -17,7 +17,8 @@ count-is : {X : Type 0} (p : X → Bool) (xs : List X) → count p xs ≡ length
 count-is p [] = refl
 count-is p (x ∷ xs) = by_test (p x) (count-is p xs)
   where
-    by_test : (b : Bool) → count p xs ≡ length (filter p xs) → cond b 1 0 + count p xs ≡ length (cond b (x ∷ filter p xs) (filter p xs))
+    by_test : (b : Bool) → count p xs ≡ length (filter p xs)
+        → cond b 1 0 + count p xs ≡ length (cond b (x ∷ filter p xs) (filter p xs))
     by_test true more = omega (arith, more)
     by_test false more = omega (arith, more)
 
@@ -52,7 +53,8 @@ count_filter p q (x ∷ xs) = by_test (q x) (count_filter p q xs)
     by_test false more = omega (arith, more)
 
 -- where an element fails a test that can't tell equal ones apart, they fail it too
-nothing_lost : {X : Type 0} (same : X → X → Bool) (p : X → Bool) → ((a b : X) → same a b ≡ true → p a ≡ p b) → (x : X) → p x ≡ false
+nothing_lost : {X : Type 0} (same : X → X → Bool) (p : X → Bool) → ((a b : X) → same a b ≡ true → p a ≡ p b) → (x : X)
+    → p x ≡ false
     → (ys : List X) → filter p (filter (λ y. not (same x y)) ys) ≡ filter p ys
 nothing_lost same p h x e [] = refl
 nothing_lost {X = X} same p h x e (y ∷ ys) = by_same (nothing_lost same p h x e ys) (same x y) refl
@@ -63,14 +65,18 @@ nothing_lost {X = X} same p h x e (y ∷ ys) = by_same (nothing_lost same p h x 
     by_same more false s = ap (λ (zs : List X). cond (p y) (y ∷ zs) zs) more
 
 -- a test that can't tell equal elements apart keeps the heads of what it keeps
-heads_filter : {X : Type 0} (same : X → X → Bool) (p : X → Bool) → ((a b : X) → same a b ≡ true → p a ≡ p b) → (xs : List X)
+heads_filter : {X : Type 0} (same : X → X → Bool) (p : X → Bool) → ((a b : X) → same a b ≡ true → p a ≡ p b)
+    → (xs : List X)
     → filter p (heads same xs) ≡ heads same (filter p xs)
 heads_filter same p h [] = refl
 heads_filter {X = X} same p h (x ∷ xs) = by_test (heads_filter same p h xs) (p x) refl
   where
-    by_test : filter p (heads same xs) ≡ heads same (filter p xs) → (b : Bool) → p x ≡ b → cond b (x ∷ filter p (filter (λ y. not (same x y)) (heads same xs))) (filter p (filter (λ y. not (same x y)) (heads same xs)))
+    by_test : filter p (heads same xs) ≡ heads same (filter p xs) → (b : Bool) → p x ≡ b
+        → cond b (x ∷ filter p (filter (λ y. not (same x y)) (heads same xs))) (filter p (filter (λ y. not (same x y)) (heads same xs)))
         ≡ heads same (cond b (x ∷ filter p xs) (filter p xs))
-    by_test more true e = ap (λ (zs : List X). x ∷ zs) (filter_swap p (λ y. not (same x y)) (heads same xs) ∙ ap (filter (λ y. not (same x y))) more)
+    by_test more true e =
+        ap (λ (zs : List X). x ∷ zs)
+        (filter_swap p (λ y. not (same x y)) (heads same xs) ∙ ap (filter (λ y. not (same x y))) more)
     by_test more false e = nothing_lost same p h x e (heads same xs) ∙ more
 
 count_none : {X : Type 0} (p : X → Bool) → ((x : X) → p x ≡ false) → (xs : List X) → count p xs ≡ 0
@@ -91,7 +97,8 @@ count_split p (x ∷ xs) = by_test (p x) (count_split p xs)
     by_test false more = omega (arith, more)
 
 -- of the elements equal to one there is one head, if there are any
-one_head : {X : Type 0} (same : X → X → Bool) → IsEquivalence same → (x : X) (xs : List X) → count (same x) (heads same xs) ≡ min 1 (count (same x) xs)
+one_head : {X : Type 0} (same : X → X → Bool) → IsEquivalence same → (x : X) (xs : List X)
+    → count (same x) (heads same xs) ≡ min 1 (count (same x) xs)
 one_head same e x [] = refl
 one_head {X = X} same e x (y ∷ ys) =
     rw (count_filter (same x) (λ z. not (same y z)) (heads same ys)) (by_test (one_head same e x ys) (same x y) refl)
@@ -112,7 +119,8 @@ one_head {X = X} same e x (y ∷ ys) =
 
     by_test : count (same x) (heads same ys) ≡ min 1 (count (same x) ys) → (b : Bool) → same x y ≡ b
         → cond b 1 0 + count (λ z. not (same y z) && same x z) (heads same ys) ≡ min 1 (cond b 1 0 + count (same x) ys)
-    by_test more true h = let none = count_none (λ z. not (same y z) && same x z) (differs h) (heads same ys) in omega (arith, none)
+    by_test more true h =
+        let none = count_none (λ z. not (same y z) && same x z) (differs h) (heads same ys) in omega (arith, none)
     by_test more false h =
         let agree = count_agree (λ z. not (same y z) && same x z) (same x) (as_before h) (heads same ys) in
         omega (arith, agree, more)
@@ -121,7 +129,8 @@ none_left : {X : Type 0} (ys : List X) → CountSame [] ys → 0 ≡ length ys
 none_left [] h = refl
 none_left (y ∷ ys) h = absurd (omega (arith, h (λ _. true)))
 
-alike : {X : Type 0} (same : X → X → Bool) → IsEquivalence same → (fuel : ℕ) (xs ys : List X) → length xs ≤ fuel → CountSame xs ys
+alike : {X : Type 0} (same : X → X → Bool) → IsEquivalence same → (fuel : ℕ) (xs ys : List X) → length xs ≤ fuel
+    → CountSame xs ys
     → length (heads same xs) ≡ length (heads same ys)
 alike same e fuel [] [] l h = refl
 alike same e fuel [] (y ∷ ys) l h = absurd (omega (arith, none_left (y ∷ ys) h))
@@ -145,14 +154,17 @@ alike {X = X} same e (suc fuel) (x ∷ xs) ys l h =
     fewer : CountSame (filter (λ y. not (same x y)) xs) (filter (λ y. not (same x y)) ys)
     fewer p =
         let both = h (λ y. not (same x y) && p y) in
-        count_filter p (λ y. not (same x y)) xs ∙ (first (same x x) (e.refl x) both ∙ sym (count_filter p (λ y. not (same x y)) ys))
+        count_filter p (λ y. not (same x y)) xs
+        ∙ (first (same x x) (e.refl x) both ∙ sym (count_filter p (λ y. not (same x y)) ys))
       where
-        first : (b : Bool) → b ≡ true → cond (not b && p x) 1 0 + count (λ y. not (same x y) && p y) xs ≡ count (λ y. not (same x y) && p y) ys
+        first : (b : Bool) → b ≡ true
+            → cond (not b && p x) 1 0 + count (λ y. not (same x y) && p y) xs ≡ count (λ y. not (same x y) && p y) ys
             → count (λ y. not (same x y) && p y) xs ≡ count (λ y. not (same x y) && p y) ys
         first true s k = omega (arith, k)
         first false s k = absurd (false≢true s)
 
 -- lists with the same elements have as many distinct ones
-pub heads_of_permutation : {X : Type 0} (same : X → X → Bool) → IsEquivalence same → (xs ys : List X) → IsPermutation xs ys
+pub heads_of_permutation : {X : Type 0} (same : X → X → Bool) → IsEquivalence same → (xs ys : List X)
+    → IsPermutation xs ys
     → length (heads same xs) ≡ length (heads same ys)
 heads_of_permutation same e xs ys h = alike same e (length xs) xs ys (omega arith) (same_from_permutation xs ys h)

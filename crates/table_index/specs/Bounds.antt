@@ -36,4 +36,5 @@ lies_up_to table column high row = meets_high high (cell_at table row column)
 
 -- whether a row's cell lies within both ends
 abbrev pub lies_within : TableValue → ℕ → Bound → Bound → ℕ → Bool
-lies_within table column low high row = meets_low low (cell_at table row column) && meets_high high (cell_at table row column)
+lies_within table column low high row =
+    meets_low low (cell_at table row column) && meets_high high (cell_at table row column)

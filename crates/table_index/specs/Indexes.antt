@@ -3,6 +3,7 @@ use Rattle.std.specs.Prelude.{◌≡◌, ◌<◌, ℕ, ℤ, List, length, slice_
 use Rattle.std.specs.Option.{option_cmp}
 use Rattle.std.specs.Ordering.{int_cmp, is_lt, nat_cmp, ordering_then}
 use Rattle.std.specs.declared.cmp.Ordering.{Ordering}
+use Rattle.row_values.specs.Sorting.{in_order}
 use Rattle.csv_tables.specs.Tables.{TableValue, cell_at}
 use Rattle.row_values.specs.RowNumbers.{row_numbers}
 use Rattle.row_values.specs.Orders.{cell_order}
@@ -28,6 +29,10 @@ number_order numbers a b = ordering_then (option_cmp int_cmp (slice_get numbers 
 pub record AreOrdered (table : TableValue) (column : ℕ) (rows : List ℕ) : Type 0 where
   pub each_once : IsPermutation (row_numbers (length table.rows)) rows
   pub in_order : IsSortedBy (is_before table column) rows
+
+-- the one list of the rows of a table in the order of a column: that of their numbers, sorted
+abbrev pub rows_in_order : TableValue → ℕ → List ℕ
+rows_in_order table column = in_order (is_before table column) (row_numbers (length table.rows))
 
 -- an index is built of a table over a column
 pub record IsBuilt (table : TableValue) (column : ℕ) (index : IndexValue) : Type 0 where

@@ -6,7 +6,7 @@ ghost use Rattle.std.specs.List.{count_by};
 ghost use Rattle.csv_tables.specs.Tables.{AreNumbers};
 ghost use Rattle.table_index.specs.Bounds.{FitsColumn, lies_below, lies_up_to, lies_within};
 ghost use Rattle.table_index.specs.Distinct.{distinct_in};
-ghost use Rattle.table_index.specs.Indexes.{IsBuilt};
+ghost use Rattle.table_index.specs.Indexes.{IsBuilt, rows_in_order};
 
 use crate::bounds::{Bound, meets_high, meets_low};
 use crate::distinct::distinct_rows;
@@ -35,7 +35,8 @@ impl Index {
     /// The index of this table over this column.
     pub fn build(alloc: Global, t: &Table, column: u8) -> Result<Index, OutOfMemory>
         requires { column < length t.now.schema }
-        ensures { IfOk result (λ index. IsBuilt t.now column index) }
+        ensures built { IfOk result (λ index. IsBuilt t.now column index) }
+        ensures rows { IfOk result (λ index. index.rows ≡ rows_in_order t.now column) }
     {
         let rows = sorted_rows(alloc, t, usize::from(column))?;
         Ok(Index { column, rows })

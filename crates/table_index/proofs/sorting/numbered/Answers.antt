@@ -12,7 +12,11 @@ loop-row-preserved c =
     let number : ℤ = get_or c.args.numbers.now c.loop-row.row (pos 0) in
     let fits : SFits w64 (get_or c.args.numbers.now c.loop-row.row (pos 0)) = search rules in
     rw (c.in_ok-push.ensures.items, to_z-of_z w64 (get_or c.args.numbers.now c.loop-row.row (pos 0)) fits) record {
-      rows = map_push (λ pair. pair.1) c.loop-row.pairs.items (number, c.loop-row.row) ∙ rw (c.loop-row.invariant.rows, add-one) refl;
-      numbers = All-push (λ pair. slice_get c.args.numbers.now pair.1 ≡ Some pair.0) c.loop-row.pairs.items (number, c.loop-row.row) c.loop-row.invariant.numbers
+      rows =
+          map_push (λ pair. pair.1) c.loop-row.pairs.items (number, c.loop-row.row)
+          ∙ rw (c.loop-row.invariant.rows, add-one) refl;
+      numbers =
+          All-push (λ pair. slice_get c.args.numbers.now pair.1 ≡ Some pair.0) c.loop-row.pairs.items
+          (number, c.loop-row.row) c.loop-row.invariant.numbers
           (slice_get-get_or c.args.numbers.now c.loop-row.row (pos 0) c.loop-row-test.true);
     }

@@ -11,9 +11,11 @@ swapped : (a b n : ℕ) → a ≡ n → max a b ≡ max b n
 swapped a b n e = omega (arith, e)
 
 ordered : (c : goal.After-max) → AreOrdered c.args.t.now c.from-column.result c.as_slice-rows.result.now
-ordered c = rw (c.from-column.ensures, c.as_slice-rows.ensures.value) (rw (← c.self.view_is) at c.requires.built.rows_are)
+ordered c =
+    rw (c.from-column.ensures, c.as_slice-rows.ensures.value) (rw (← c.self.view_is) at c.requires.built.rows_are)
 
-low_cut : (c : goal.After-max) → Cut (lies_below c.args.t.now c.from-column.result c.args.lo) c.as_slice-rows.result.now c.partition_point-first.result
+low_cut : (c : goal.After-max)
+    → Cut (lies_below c.args.t.now c.from-column.result c.args.lo) c.as_slice-rows.result.now c.partition_point-first.result
 low_cut c =
     let fits : FitsColumn c.args.t.now c.from-column.result c.args.lo = rw c.from-column.ensures (rw (← c.self.view_is) at c.requires.low) in
     cut_from_point _ _ _ c.partition_point-first.ensures.bound
@@ -22,7 +24,8 @@ low_cut c =
     (below_first c.args.t.now c.numbers-numbers.ensures.sound c.from-column.result c.as_slice-rows.result.now (rise _ _ _ (ordered c)) c.args.lo fits)
     (λ a r f k. (search rules, search rules)))
 
-high_cut : (c : goal.After-max) → Cut (lies_up_to c.args.t.now c.from-column.result c.args.hi) c.as_slice-rows.result.now c.partition_point-end.result
+high_cut : (c : goal.After-max)
+    → Cut (lies_up_to c.args.t.now c.from-column.result c.args.hi) c.as_slice-rows.result.now c.partition_point-end.result
 high_cut c =
     let fits : FitsColumn c.args.t.now c.from-column.result c.args.hi = rw c.from-column.ensures (rw (← c.self.view_is) at c.requires.high) in
     cut_from_point _ _ _ c.partition_point-end.ensures.bound
