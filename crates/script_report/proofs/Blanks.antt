@@ -11,5 +11,6 @@ small byte h = grind (arith, nat_tests)
 pub at_blank : (text : List ℕ) (i : ℕ) → i < length text → is_blank (get_or text i 0) ≡ true → IsCharBoundary text i
 at_blank text i lt h = IsCharBoundary-before_ascii text i lt (small _ h)
 
-pub after_blank : (text : List ℕ) (i : ℕ) → IsUtf8 text → i < length text → is_blank (get_or text i 0) ≡ true → IsCharBoundary text (i + 1)
+pub after_blank : (text : List ℕ) (i : ℕ) → IsUtf8 text → i < length text → is_blank (get_or text i 0) ≡ true
+    → IsCharBoundary text (i + 1)
 after_blank text i utf8 lt h = IsCharBoundary-after_ascii text i utf8 lt (small _ h)

@@ -8,7 +8,8 @@ use Rattle.script_report.specs.Commands.{command_in}
 other : (word known : List ℕ) → word ≢ known → bytes_eq word known ≡ false
 other word known n = false_from_ne_true (bytes_eq word known) (λ e. n ((bytes_eq-Decides word known).0 e))
 
-pub no_command : (word parts : List ℕ) → word ≢ codes "load" → word ≢ codes "index" → word ≢ codes "prepare" → word ≢ codes "run" → word ≢ codes "cursor" → word ≢ codes "fetch"
+pub no_command : (word parts : List ℕ) → word ≢ codes "load" → word ≢ codes "index" → word ≢ codes "prepare"
+    → word ≢ codes "run" → word ≢ codes "cursor" → word ≢ codes "fetch"
     → word ≢ codes "close" → word ≢ codes "evict" → word ≢ codes "show" → command_in word parts ≡ None
 no_command word parts load index prepare run cursor fetch close evict show =
     rw (

@@ -5,6 +5,8 @@ use Rattle.script_report.specs.Parts.{first_part, after_part}
 use Rattle.script_report.specs.Commands.{said, line_in, command_in}
 use Rattle.script_report.specs.declared.commands.Command.{Command}
 
-pub says : (text bytes word rest : List ℕ) (command : Option Command) → bytes ≡ text → (length bytes == 0) ≡ false → slice_index bytes 0 ≢ 35 → word ≡ first_part text → rest ≡ after_part text →
+pub says : (text bytes word rest : List ℕ) (command : Option Command) → bytes ≡ text → (length bytes == 0) ≡ false
+    → slice_index bytes 0 ≢ 35 → word ≡ first_part text → rest ≡ after_part text →
     command_in word rest ≡ command → line_in text ≡ said command
-says text bytes word rest command e some other w a h = rw (rw e at some, ne_eqb _ _ (rw e at other)) (ap said (rw (w, a) at h))
+says text bytes word rest command e some other w a h =
+    rw (rw e at some, ne_eqb _ _ (rw e at other)) (ap said (rw (w, a) at h))

@@ -19,10 +19,13 @@ args_text (value ∷ values) = codes " " ++ (operand_text (Literal value) ++ arg
 -- the command word and the parts behind it, one space before each
 abbrev pub command_text : Command → List ℕ
 command_text (command.Load table file) = codes "load " ++ (canonical_name table ++ (codes " " ++ file))
-command_text (command.Index table column) = codes "index " ++ (canonical_name table ++ (codes " " ++ canonical_name column))
-command_text (command.Prepare name select) = codes "prepare " ++ (canonical_name name ++ (codes " " ++ canonical_text select))
+command_text (command.Index table column) =
+    codes "index " ++ (canonical_name table ++ (codes " " ++ canonical_name column))
+command_text (command.Prepare name select) =
+    codes "prepare " ++ (canonical_name name ++ (codes " " ++ canonical_text select))
 command_text (command.Run name args) = codes "run " ++ (canonical_name name ++ args_text args)
-command_text (command.Cursor cursor name args) = codes "cursor " ++ (canonical_name cursor ++ (codes " " ++ (canonical_name name ++ args_text args)))
+command_text (command.Cursor cursor name args) =
+    codes "cursor " ++ (canonical_name cursor ++ (codes " " ++ (canonical_name name ++ args_text args)))
 command_text (command.Fetch cursor rows) = codes "fetch " ++ (canonical_name cursor ++ (codes " " ++ decimal rows))
 command_text (command.Close cursor) = codes "close " ++ canonical_name cursor
 command_text (command.Evict name plan) = codes "evict " ++ (canonical_name name ++ (codes " " ++ decimal plan))
@@ -45,7 +48,8 @@ is_count most number = nat_le 1 number && nat_le number most
 abbrev pub is_value : Value → Bool
 is_value value = is_operand (Literal value)
 
--- no name without a byte, a file that a line can tell, counts in their ranges, numbers of 64 bits, a statement that has a spelling
+-- no name without a byte, a file that a line can tell, counts in their ranges, numbers of 64 bits, a statement that
+-- has a spelling
 abbrev pub IsSoundCommand : Command → Type 0
 IsSoundCommand (command.Load table file) = IsTrue (is_name table && is_file file)
 IsSoundCommand (command.Index table column) = IsTrue (is_name table && is_name column)

@@ -1,5 +1,6 @@
 -- What a script line says.
-use Rattle.std.specs.Prelude.{ℕ, zero, suc, ◌==◌, ◌&&◌, nat_le, ℤ, pos, negsuc, List, [], ◌∷◌, codes, length, slice_index, reverse, Bool, false, Option, Some, None, if◌then◌else◌}
+use Rattle.std.specs.Prelude.{ℕ, zero, suc, ◌==◌, ◌&&◌, nat_le, ℤ, pos, negsuc, List, [], ◌∷◌, codes, length}
+use Rattle.std.specs.Prelude.{slice_index, reverse, Bool, false, Option, Some, None, if◌then◌else◌}
 use Rattle.std.specs.Str.{bytes_eq}
 use Rattle.row_values.specs.Numbers.{whole_number_of}
 use Rattle.row_values.specs.declared.values.Value.{Value}
@@ -152,6 +153,7 @@ line_in text =
 abbrev pub skip_end_blanks : List ℕ → List ℕ
 skip_end_blanks text = reverse (skip_blanks (reverse text))
 
--- what a line says: nothing where it is empty or begins with `#`, else what its command word and the parts behind it say
+-- what a line says: nothing where it is empty or begins with `#`, else what its command word and the parts behind
+-- that say
 unfoldable pub reading_of : List ℕ → Reading
 reading_of line = line_in (skip_end_blanks (skip_blanks line))

@@ -1,4 +1,4 @@
--- Parts of a line: what stands between spaces and tabs. A name is spelled as in a statement, and so are numbers and texts.
+-- Parts of a line: what stands between spaces and tabs. Names, numbers and texts are spelled as in a statement.
 use Rattle.std.specs.Prelude.{ℕ, ◌==◌, ◌||◌, List, [], ◌∷◌, Bool, Option, Some, None, if◌then◌else◌}
 use Rattle.row_values.specs.declared.values.Value.{Value}
 use Rattle.sql_parser.specs.Reading.{◌>>=◌}

@@ -11,12 +11,17 @@ use Rattle.script_report.specs.declared.replies.Reply.TheVariants.{Loaded, Prepa
 -- `L loaded T rows R columns K`
 abbrev pub loaded_text : ℕ → List ℕ → ℕ → ℕ → List ℕ
 loaded_text line table rows columns =
-    decimal line ++ (codes " loaded " ++ (canonical_name table ++ (codes " rows " ++ (decimal rows ++ (codes " columns " ++ (decimal columns ++ codes "\n"))))))
+    decimal line ++ (codes " loaded "
+    ++ (canonical_name table ++ (codes " rows "
+    ++ (decimal rows ++ (codes " columns " ++ (decimal columns ++ codes "\n"))))))
 
 -- `L prepared NAME tables M predicates K parameters J`
 abbrev pub prepared_text : ℕ → List ℕ → ℕ → ℕ → ℕ → List ℕ
 prepared_text line name tables predicates parameters =
-    decimal line ++ (codes " prepared " ++ (canonical_name name ++ (codes " tables " ++ (decimal tables ++ (codes " predicates " ++ (decimal predicates ++ (codes " parameters " ++ (decimal parameters ++ codes "\n"))))))))
+    decimal line ++ (codes " prepared "
+    ++ (canonical_name name ++ (codes " tables "
+    ++ (decimal tables ++ (codes " predicates "
+    ++ (decimal predicates ++ (codes " parameters " ++ (decimal parameters ++ codes "\n"))))))))
 
 -- each number behind a space
 abbrev pub numbers_text : List ℕ → List ℕ
@@ -25,11 +30,13 @@ numbers_text (number ∷ numbers) = (codes " " ++ decimal number) ++ numbers_tex
 
 -- `execution E`, then the plan and its cost
 abbrev pub plan_lines : Execution → List ℕ
-plan_lines e = codes " execution " ++ (decimal e.number ++ (codes "\nplan " ++ (e.spelled ++ (codes "\ncost " ++ (decimal e.cost ++ codes "\nat")))))
+plan_lines e = codes " execution "
+    ++ (decimal e.number ++ (codes "\nplan " ++ (e.spelled ++ (codes "\ncost " ++ (decimal e.cost ++ codes "\nat")))))
 
 -- `L ran NAME execution E`, then the plan, its cost, and the selectivity vector
 abbrev pub execution_text : ℕ → Execution → List ℕ
-execution_text line e = (((decimal line ++ codes " ran ") ++ canonical_name e.name) ++ plan_lines e) ++ (numbers_text e.at ++ codes "\n")
+execution_text line e = (((decimal line ++ codes " ran ") ++ canonical_name e.name) ++ plan_lines e)
+    ++ (numbers_text e.at ++ codes "\n")
 
 -- a line for each row
 abbrev pub lines_text : List (List ℕ) → List ℕ
@@ -50,7 +57,9 @@ shown_text shown = if length shown == 0 then codes "\n" else codes " " ++ (shown
 -- `L refused C WORDS SHOWN`
 abbrev pub refused_text : ℕ → Refusal → List ℕ
 refused_text line refusal =
-    decimal line ++ (codes " refused " ++ (decimal refusal.code ++ (codes " " ++ (unwrap_or (refusal_words refusal.code) [] ++ shown_text refusal.shown))))
+    decimal line ++ (codes " refused "
+    ++ (decimal refusal.code ++ (codes " "
+    ++ (unwrap_or (refusal_words refusal.code) [] ++ shown_text refusal.shown))))
 
 -- the lines of a reply to the line of this number
 abbrev pub reply_text : ℕ → Reply → List ℕ

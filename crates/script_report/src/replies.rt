@@ -179,7 +179,8 @@ fn prepared_text(
     predicates: u32,
     parameters: u32,
 ) -> Result<String, OutOfMemory>
-    ensures { IfOk result (λ text. string_bytes text ≡ report.prepared_text line name.now tables predicates parameters) }
+    ensures { IfOk result (λ text.
+        string_bytes text ≡ report.prepared_text line name.now tables predicates parameters) }
 {
     let mut text = format!(in alloc; "{line} prepared ")?;
     push_name(&mut text, name)?;

@@ -1,6 +1,7 @@
 -- What holds of every symbol, by trying each of them.
-use Rattle.std.proofs.Common.{◌≡◌, ℕ, zero, suc, Bool, true, false, cond, ◌&&◌, ◌||◌, Option, Some, None, List, [], ◌∷◌, find, refl, sym, ◌∙◌, ap, eq-eqb}
-use Rattle.std.proofs.lemmas.Bool.{eqb-true, and_parts, or_left, or_right, false≢true, true≢false}
+use Rattle.std.proofs.Common.{◌≡◌, ℕ, zero, suc, Bool, true, false, cond, ◌||◌, Option, Some, None, List, [], ◌∷◌}
+use Rattle.std.proofs.Common.{find, refl, sym, ◌∙◌, ap, eq-eqb}
+use Rattle.std.proofs.lemmas.Bool.{eqb-true, and_parts, or_left, or_right}
 use Rattle.sql_parser.specs.Reading.{position_of, symbol_eq}
 use Rattle.sql_parser.specs.Statement.{each}
 use Rattle.sql_parser.specs.declared.tokens.Symbol.{Symbol}
@@ -14,8 +15,10 @@ symbol_nth (m ∷ ms) (suc k) = symbol_nth ms k
 -- all symbols, each at its position
 abbrev pub symbols : List Symbol
 symbols =
-    symbol.Select ∷ symbol.From ∷ symbol.Where ∷ symbol.And ∷ symbol.Group ∷ symbol.By ∷ symbol.Order ∷ symbol.Asc ∷ symbol.Desc ∷ symbol.Between
-    ∷ symbol.Count ∷ symbol.Sum ∷ symbol.Min ∷ symbol.Max ∷ symbol.As ∷ symbol.Join ∷ symbol.Inner ∷ symbol.On ∷ symbol.In
+    symbol.Select ∷ symbol.From ∷ symbol.Where ∷ symbol.And ∷ symbol.Group ∷ symbol.By ∷ symbol.Order ∷ symbol.Asc
+    ∷ symbol.Desc ∷ symbol.Between
+    ∷ symbol.Count ∷ symbol.Sum ∷ symbol.Min ∷ symbol.Max ∷ symbol.As ∷ symbol.Join ∷ symbol.Inner ∷ symbol.On
+    ∷ symbol.In
     ∷ symbol.Comma ∷ symbol.Dot ∷ symbol.Open ∷ symbol.Close ∷ symbol.Star ∷ symbol.Question ∷ symbol.Semicolon
     ∷ symbol.Less ∷ symbol.AtMost ∷ symbol.Greater ∷ symbol.AtLeast ∷ symbol.Equals ∷ []
 
@@ -53,7 +56,8 @@ symbol_back symbol.Greater = refl
 symbol_back symbol.AtLeast = refl
 symbol_back symbol.Equals = refl
 
-each_nth : (test : Symbol → Bool) (ms : List Symbol) (k : ℕ) (m : Symbol) → each test ms ≡ true → symbol_nth ms k ≡ Some m → test m ≡ true
+each_nth : (test : Symbol → Bool) (ms : List Symbol) (k : ℕ) (m : Symbol) → each test ms ≡ true
+    → symbol_nth ms k ≡ Some m → test m ≡ true
 unfolding symbol_nth
 each_nth test [] k m h e = cc
 each_nth test (x ∷ ms) zero m h e = (let same : x ≡ m = cc in rw (← same) (and_parts (test x) (each test ms) h).0)
@@ -85,7 +89,8 @@ any test [] = false
 any test (x ∷ xs) = test x || any test xs
 
 -- one passes that is in the list
-pub any_in : (test : Symbol → Bool) (m : Symbol) (xs : List Symbol) → is_in m xs ≡ true → test m ≡ true → any test xs ≡ true
+pub any_in : (test : Symbol → Bool) (m : Symbol) (xs : List Symbol) → is_in m xs ≡ true → test m ≡ true
+    → any test xs ≡ true
 any_in test m [] h t = cc
 any_in test m (x ∷ xs) h t =
     let step : (v : Bool) → symbol_eq x m ≡ v → (v || is_in m xs) ≡ true → (test x || any test xs) ≡ true =

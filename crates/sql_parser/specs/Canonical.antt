@@ -34,7 +34,8 @@ item_text (item.Max r) = codes "MAX(" ++ ref_text r ++ codes ")"
 
 -- the alias where it isn't the table's name
 abbrev pub place_text : RawPlace → List ℕ
-place_text place = canonical_name place.table ++ (if bytes_eq place.alias place.table then [] else codes " AS " ++ canonical_name place.alias)
+place_text place = canonical_name place.table
+    ++ (if bytes_eq place.alias place.table then [] else codes " AS " ++ canonical_name place.alias)
 
 abbrev pub operand_text : RawOperand → List ℕ
 operand_text (operand.Literal (Int number)) = signed_decimal number

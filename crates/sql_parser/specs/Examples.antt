@@ -1,7 +1,9 @@
 -- Worked texts and what they spell, by computation.
 use Rattle.std.specs.Prelude.{◌≡◌, ℕ, pos, negsuc, List, [], ◌∷◌, true, map, codes, Some, None, refl}
 use Rattle.row_values.specs.declared.values.Value.TheVariants.{Int, Text}
-use Rattle.sql_parser.specs.Reading.{symbol_eq, ref_at, enclosed_at, count_at, item_at, place_at, operand_at, between_at, in_at, test_at, cond_at, key_at, more_at, list_at, join_at, joined_at, joins_at, where_at, group_at, order_at, end_at, from_at, source_at, statement_at}
+use Rattle.sql_parser.specs.Reading.{symbol_eq, ref_at, enclosed_at, count_at, item_at, place_at, operand_at}
+use Rattle.sql_parser.specs.Reading.{between_at, in_at, test_at, cond_at, key_at, more_at, list_at, join_at, joined_at}
+use Rattle.sql_parser.specs.Reading.{joins_at, where_at, group_at, order_at, end_at, from_at, source_at, statement_at}
 use Rattle.sql_parser.specs.Spelled.{tokens_of, statement_of}
 use Rattle.sql_parser.specs.declared.statement.RawRef.{RawRef}
 use Rattle.sql_parser.specs.declared.statement.RawPlace.{RawPlace}
@@ -33,7 +35,9 @@ quoted_column : statement_of (codes "select \"order id\" from t where day >= 5 ;
   groups = [];
   order = [];
 })
-unfolding statement_of tokens_of statement_at symbol_eq ref_at enclosed_at count_at item_at place_at operand_at between_at in_at test_at cond_at key_at more_at list_at join_at joined_at joins_at where_at group_at order_at end_at from_at source_at
+unfolding statement_of tokens_of statement_at symbol_eq ref_at enclosed_at count_at item_at place_at operand_at
+    between_at in_at test_at cond_at key_at more_at list_at join_at joined_at joins_at where_at group_at order_at end_at
+    from_at source_at
 quoted_column = refl
 
 -- the conditions of a join stand before those of WHERE; a quote in a name or in a text is written as two
@@ -47,7 +51,9 @@ joined : statement_of (codes "SELECT SUM(s.\"a\"\"b\") FROM sales AS s JOIN days
   groups = [];
   order = record { at = dotted (codes "d") (codes "day"); descending = true } ∷ [];
 })
-unfolding statement_of tokens_of statement_at symbol_eq ref_at enclosed_at count_at item_at place_at operand_at between_at in_at test_at cond_at key_at more_at list_at join_at joined_at joins_at where_at group_at order_at end_at from_at source_at
+unfolding statement_of tokens_of statement_at symbol_eq ref_at enclosed_at count_at item_at place_at operand_at
+    between_at in_at test_at cond_at key_at more_at list_at join_at joined_at joins_at where_at group_at order_at end_at
+    from_at source_at
 joined = refl
 
 -- an IN with a number, a text and a parameter among its operands
@@ -58,10 +64,13 @@ one_of_three : statement_of (codes "SELECT v FROM t WHERE v IN(3,?, 'x')") ≡ S
   groups = [];
   order = [];
 })
-unfolding statement_of tokens_of statement_at symbol_eq ref_at enclosed_at count_at item_at place_at operand_at between_at in_at test_at cond_at key_at more_at list_at join_at joined_at joins_at where_at group_at order_at end_at from_at source_at
+unfolding statement_of tokens_of statement_at symbol_eq ref_at enclosed_at count_at item_at place_at operand_at
+    between_at in_at test_at cond_at key_at more_at list_at join_at joined_at joins_at where_at group_at order_at end_at
+    from_at source_at
 one_of_three = refl
 
--- no place; nothing behind a comma; a name without a byte; a text that no quote closes; a number of more than 64 bits; an IN of no operand
+-- no place; nothing behind a comma; a name without a byte; a text that no quote closes; a number of more than 64 bits;
+-- an IN of no operand
 no_statements : map statement_of (
     codes "SELECT v FROM"
     ∷ codes "SELECT v, FROM t"
@@ -71,10 +80,13 @@ no_statements : map statement_of (
     ∷ codes "SELECT v FROM t WHERE v IN ()"
     ∷ []
     ) ≡ None ∷ None ∷ None ∷ None ∷ None ∷ None ∷ []
-unfolding statement_of tokens_of statement_at symbol_eq ref_at enclosed_at count_at item_at place_at operand_at between_at in_at test_at cond_at key_at more_at list_at join_at joined_at joins_at where_at group_at order_at end_at from_at source_at
+unfolding statement_of tokens_of statement_at symbol_eq ref_at enclosed_at count_at item_at place_at operand_at
+    between_at in_at test_at cond_at key_at more_at list_at join_at joined_at joins_at where_at group_at order_at end_at
+    from_at source_at
 no_statements = refl
 
--- a number ends where its digits end, and a sign where a longer one doesn't stand, so that no white space is needed there
+-- a number ends where its digits end, and a sign where a longer one doesn't stand, so that no white space is needed
+-- there
 run_together : tokens_of (codes "5AND-7a<=9<b") ≡ Some (
     token.Literal (Int (pos 5))
     ∷ token.Symbol symbol.And

@@ -21,21 +21,27 @@ use Rattle.sql_parser.specs.declared.tokens.Token.TheVariants.{Name, Literal, Sy
 -- ref = name | name "." name
 pub data IsRef : RawRef → List Token → Type 0 where
   plain : {column : List ℕ} → IsRef (record { alias = None; column = column }) (Name column ∷ [])
-  dotted : {alias column : List ℕ} → IsRef (record { alias = Some alias; column = column }) (Name alias ∷ Symbol symbol.Dot ∷ Name column ∷ [])
+  dotted : {alias column : List ℕ}
+      → IsRef (record { alias = Some alias; column = column }) (Name alias ∷ Symbol symbol.Dot ∷ Name column ∷ [])
 
 -- item = ref | COUNT "(" "*" ")" | SUM "(" ref ")" | MIN "(" ref ")" | MAX "(" ref ")"
 pub data IsItem : RawItem → List Token → Type 0 where
   column : {r : RawRef} {ref : List Token} → IsRef r ref → IsItem (item.Column r) ref
-  count : IsItem item.CountAll (Symbol symbol.Count ∷ Symbol symbol.Open ∷ Symbol symbol.Star ∷ Symbol symbol.Close ∷ [])
-  sum : {r : RawRef} {ref : List Token} → IsRef r ref → IsItem (item.Sum r) (Symbol symbol.Sum ∷ Symbol symbol.Open ∷ (ref ++ Symbol symbol.Close ∷ []))
-  min : {r : RawRef} {ref : List Token} → IsRef r ref → IsItem (item.Min r) (Symbol symbol.Min ∷ Symbol symbol.Open ∷ (ref ++ Symbol symbol.Close ∷ []))
-  max : {r : RawRef} {ref : List Token} → IsRef r ref → IsItem (item.Max r) (Symbol symbol.Max ∷ Symbol symbol.Open ∷ (ref ++ Symbol symbol.Close ∷ []))
+  count : IsItem item.CountAll
+      (Symbol symbol.Count ∷ Symbol symbol.Open ∷ Symbol symbol.Star ∷ Symbol symbol.Close ∷ [])
+  sum : {r : RawRef} {ref : List Token} → IsRef r ref
+      → IsItem (item.Sum r) (Symbol symbol.Sum ∷ Symbol symbol.Open ∷ (ref ++ Symbol symbol.Close ∷ []))
+  min : {r : RawRef} {ref : List Token} → IsRef r ref
+      → IsItem (item.Min r) (Symbol symbol.Min ∷ Symbol symbol.Open ∷ (ref ++ Symbol symbol.Close ∷ []))
+  max : {r : RawRef} {ref : List Token} → IsRef r ref
+      → IsItem (item.Max r) (Symbol symbol.Max ∷ Symbol symbol.Open ∷ (ref ++ Symbol symbol.Close ∷ []))
 
 -- place = name [[AS] name]; the alias of a place without one is its table's name
 pub data IsPlace : RawPlace → List Token → Type 0 where
   bare : {table : List ℕ} → IsPlace (record { table = table; alias = table }) (Name table ∷ [])
   called : {table alias : List ℕ} → IsPlace (record { table = table; alias = alias }) (Name table ∷ Name alias ∷ [])
-  called_as : {table alias : List ℕ} → IsPlace (record { table = table; alias = alias }) (Name table ∷ Symbol symbol.As ∷ Name alias ∷ [])
+  called_as : {table alias : List ℕ}
+      → IsPlace (record { table = table; alias = alias }) (Name table ∷ Symbol symbol.As ∷ Name alias ∷ [])
 
 -- operand = number | text | "?"
 pub data IsOperand : RawOperand → Token → Type 0 where
@@ -45,7 +51,8 @@ pub data IsOperand : RawOperand → Token → Type 0 where
 -- {part}
 pub data AreAll {T : Type 0} (Is : T → List Token → Type 0) : List T → List Token → Type 0 where
   no_part : AreAll Is [] []
-  part : {x : T} {xs : List T} {first rest : List Token} → Is x first → AreAll Is xs rest → AreAll Is (x ∷ xs) (first ++ rest)
+  part : {x : T} {xs : List T} {first rest : List Token} → Is x first → AreAll Is xs rest
+      → AreAll Is (x ∷ xs) (first ++ rest)
 
 -- separator part
 pub data IsBehind {T : Type 0} (Is : T → List Token → Type 0) (separator : Token) : T → List Token → Type 0 where
@@ -74,14 +81,18 @@ pub data IsTest : RawTest → List Token → Type 0 where
 
 -- cond = ref op operand | ref "=" ref | ref BETWEEN operand AND operand | ref IN "(" operand {"," operand} ")"
 pub data IsCond : RawCond → List Token → Type 0 where
-  tested : {r : RawRef} {t : RawTest} {ref rest : List Token} → IsRef r ref → IsTest t rest → IsCond (cond.Test r t) (ref ++ rest)
-  same : {r s : RawRef} {left right : List Token} → IsRef r left → IsRef s right → IsCond (cond.Same r s) (left ++ Symbol symbol.Equals ∷ right)
+  tested : {r : RawRef} {t : RawTest} {ref rest : List Token} → IsRef r ref → IsTest t rest
+      → IsCond (cond.Test r t) (ref ++ rest)
+  same : {r s : RawRef} {left right : List Token} → IsRef r left → IsRef s right
+      → IsCond (cond.Same r s) (left ++ Symbol symbol.Equals ∷ right)
 
 -- key = ref [ASC | DESC]
 pub data IsKey : RawKey → List Token → Type 0 where
   rising : {r : RawRef} {ref : List Token} → IsRef r ref → IsKey (record { at = r; descending = false }) ref
-  rising_asc : {r : RawRef} {ref : List Token} → IsRef r ref → IsKey (record { at = r; descending = false }) (ref ++ Symbol symbol.Asc ∷ [])
-  falling : {r : RawRef} {ref : List Token} → IsRef r ref → IsKey (record { at = r; descending = true }) (ref ++ Symbol symbol.Desc ∷ [])
+  rising_asc : {r : RawRef} {ref : List Token} → IsRef r ref
+      → IsKey (record { at = r; descending = false }) (ref ++ Symbol symbol.Asc ∷ [])
+  falling : {r : RawRef} {ref : List Token} → IsRef r ref
+      → IsKey (record { at = r; descending = true }) (ref ++ Symbol symbol.Desc ∷ [])
 
 -- a further place, with the conditions that stand behind it
 pub record Joined : Type 0 where
@@ -92,10 +103,13 @@ pub record Joined : Type 0 where
 pub data IsJoined : Joined → List Token → Type 0 where
   comma : {place : RawPlace} {tokens : List Token} → IsPlace place tokens
       → IsJoined (record { place = place; conds = [] }) (Symbol symbol.Comma ∷ tokens)
-  join : {place : RawPlace} {conds : List RawCond} {first rest : List Token} → IsPlace place first → AreListed IsCond (Symbol symbol.And) conds rest
+  join : {place : RawPlace} {conds : List RawCond} {first rest : List Token} → IsPlace place first
+      → AreListed IsCond (Symbol symbol.And) conds rest
       → IsJoined (record { place = place; conds = conds }) (Symbol symbol.Join ∷ (first ++ Symbol symbol.On ∷ rest))
-  inner_join : {place : RawPlace} {conds : List RawCond} {first rest : List Token} → IsPlace place first → AreListed IsCond (Symbol symbol.And) conds rest
-      → IsJoined (record { place = place; conds = conds }) (Symbol symbol.Inner ∷ Symbol symbol.Join ∷ (first ++ Symbol symbol.On ∷ rest))
+  inner_join : {place : RawPlace} {conds : List RawCond} {first rest : List Token} → IsPlace place first
+      → AreListed IsCond (Symbol symbol.And) conds rest
+      → IsJoined (record { place = place; conds = conds }) (Symbol symbol.Inner ∷ Symbol symbol.Join
+      ∷ (first ++ Symbol symbol.On ∷ rest))
 
 -- the places and the conditions of several joins
 abbrev pub joined_places : List Joined → List RawPlace
@@ -109,7 +123,8 @@ joined_conds (j ∷ js) = j.conds ++ joined_conds js
 -- [WHERE cond {AND cond}]
 pub data IsWhere : List RawCond → List Token → Type 0 where
   no_where : IsWhere [] []
-  filtered : {conds : List RawCond} {tokens : List Token} → AreListed IsCond (Symbol symbol.And) conds tokens → IsWhere conds (Symbol symbol.Where ∷ tokens)
+  filtered : {conds : List RawCond} {tokens : List Token} → AreListed IsCond (Symbol symbol.And) conds tokens
+      → IsWhere conds (Symbol symbol.Where ∷ tokens)
 
 -- [GROUP BY ref {"," ref}]
 pub data IsGroup : List RawRef → List Token → Type 0 where
@@ -128,16 +143,25 @@ pub data IsEnd : List Token → Type 0 where
   bare_end : IsEnd []
   semicolon : IsEnd (Symbol symbol.Semicolon ∷ [])
 
--- SELECT item {"," item} FROM place {"," place | join} [WHERE ..] [GROUP BY ..] [ORDER BY ..] [";"]; the conditions of the joins
--- stand before those of WHERE
+-- SELECT item {"," item} FROM place {"," place | join} [WHERE ..] [GROUP BY ..] [ORDER BY ..] [";"]; the conditions of
+-- the joins stand before those of WHERE
 pub data IsStatement : Parts → List Token → Type 0 where
-  statement : {items : List RawItem} {place : RawPlace} {joins : List Joined} {conds : List RawCond} {groups : List RawRef} {keys : List RawKey}
+  statement : {items : List RawItem} {place : RawPlace} {joins : List Joined} {conds : List RawCond}
+      {groups : List RawRef} {keys : List RawKey}
       {select from further where_ group order end : List Token}
-      → AreListed IsItem (Symbol symbol.Comma) items select → IsPlace place from → AreAll IsJoined joins further → IsWhere conds where_
+      → AreListed IsItem (Symbol symbol.Comma) items select → IsPlace place from → AreAll IsJoined joins further
+      → IsWhere conds where_
       → IsGroup groups group → IsOrder keys order → IsEnd end
       → IsStatement
-      (record { items = items; places = place ∷ joined_places joins; conds = joined_conds joins ++ conds; groups = groups; order = keys })
-      (Symbol symbol.Select ∷ (select ++ Symbol symbol.From ∷ (from ++ (further ++ (where_ ++ (group ++ (order ++ end)))))))
+      (record {
+        items = items;
+        places = place ∷ joined_places joins;
+        conds = joined_conds joins ++ conds;
+        groups = groups;
+        order = keys;
+      })
+      (Symbol symbol.Select ∷ (select
+      ++ Symbol symbol.From ∷ (from ++ (further ++ (where_ ++ (group ++ (order ++ end)))))))
 
 -- the text is a statement with these parts
 pub record IsStatementText (text : List ℕ) (s : Parts) : Type 0 where

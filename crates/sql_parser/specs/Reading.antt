@@ -1,6 +1,7 @@
--- Reading the parts of a statement off a list of tokens, each with the tokens that follow it. This is how the program reads;
--- what it means to be read so is the grammar's.
-use Rattle.std.specs.Prelude.{ℕ, zero, suc, ◌==◌, ◌≡◌, List, [], ◌∷◌, ◌++◌, length, drop, Bool, true, false, ◌||◌, if◌then◌else◌, Option, Some, None, Result, Ok, Err}
+-- Reading the parts of a statement off a list of tokens, each with the tokens that follow it. This is how the program
+-- reads; what it means to be read so is the grammar's.
+use Rattle.std.specs.Prelude.{ℕ, zero, suc, ◌==◌, ◌≡◌, List, [], ◌∷◌, ◌++◌, length, drop, Bool, true, false, ◌||◌}
+use Rattle.std.specs.Prelude.{if◌then◌else◌, Option, Some, None, Result, Ok, Err}
 use Rattle.row_values.specs.declared.values.Value.{Value}
 use Rattle.sql_parser.specs.Statement.{Parts, is_name, is_operand}
 use Rattle.sql_parser.specs.Grammar.{Joined, joined_places, joined_conds}
@@ -64,7 +65,8 @@ abbrev pub ◌>>=◌ : {A B : Type 0} → Option A → (A → Option B) → Opti
 None >>= f = None
 (Some x) >>= f = f x
 
--- what a function returned, seen by view, and the tokens that it left, are what reading gives; after want of memory nothing is said
+-- what a function returned, seen by view, and the tokens that it left, are what reading gives; after want of memory
+-- nothing is said
 abbrev pub Fails : {A : Type 0} → ParseFault → Option A → Type 0
 Fails fault.Syntax read = read ≡ None
 Fails fault.Memory read = Unit {0}
@@ -162,18 +164,21 @@ operand_at tokens =
       Some (operand.Literal value.0, value.1))
 
 -- as many parts as begin so, at most this many
-abbrev pub all_at : {T : Type 0} → (List Token → Bool) → (List Token → Option (T × List Token)) → ℕ → List Token → Option (List T × List Token)
+abbrev pub all_at : {T : Type 0} → (List Token → Bool) → (List Token → Option (T × List Token)) → ℕ → List Token
+    → Option (List T × List Token)
 all_at starts at zero tokens = None
 all_at starts at (suc n) tokens = if starts tokens
     then (at tokens >>= λ x. (all_at starts at n x.1 >>= λ xs. Some (x.0 ∷ xs.0, xs.1)))
     else Some ([], tokens)
 
 -- parts behind a separator, as many as there are
-unfoldable pub more_at : {T : Type 0} → Symbol → (List Token → Option (T × List Token)) → List Token → Option (List T × List Token)
+unfoldable pub more_at : {T : Type 0} → Symbol → (List Token → Option (T × List Token)) → List Token
+    → Option (List T × List Token)
 more_at separator at tokens = all_at (begins separator) (λ rest. at (drop 1 rest)) (suc (length tokens)) tokens
 
 -- a part, and more behind a separator
-unfoldable pub list_at : {T : Type 0} → Symbol → (List Token → Option (T × List Token)) → List Token → Option (List T × List Token)
+unfoldable pub list_at : {T : Type 0} → Symbol → (List Token → Option (T × List Token)) → List Token
+    → Option (List T × List Token)
 list_at separator at tokens = do
   x ← at tokens
   xs ← more_at separator at x.1

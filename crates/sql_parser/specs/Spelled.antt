@@ -1,12 +1,14 @@
--- The tokens of a text and the statement that it spells, as functions of the text. That they find what the grammar relates to
--- the text, and nothing else, is a law of this crate.
-use Rattle.std.specs.Prelude.{ℕ, zero, suc, ◌==◌, List, [], ◌∷◌, length, Bool, true, false, ◌&&◌, if◌then◌else◌, Option, Some, None, take, drop, find, nat_eq}
+-- The tokens of a text and the statement that it spells, as functions of the text. That they find what the grammar
+-- relates to the text, and nothing else, is a law of this crate.
+use Rattle.std.specs.Prelude.{ℕ, zero, suc, ◌==◌, List, [], ◌∷◌, length, Bool, true, false, ◌&&◌, if◌then◌else◌, Option}
+use Rattle.std.specs.Prelude.{Some, None, take, drop, find, nat_eq}
 use Rattle.std.specs.Char.{is_ascii_digit}
 use Rattle.std.specs.List.{prefix_len, starts_with}
 use Rattle.std.specs.Str.Parse.{signed_digits_value}
 use Rattle.row_values.specs.declared.values.Value.TheVariants.{Int, Text}
 use Rattle.sql_parser.specs.Statement.{Parts, is_name, is_i64}
-use Rattle.sql_parser.specs.Tokens.{is_white, is_letter, is_name_byte, is_digit_or_minus, is_spelled, symbol_text, without_minus}
+use Rattle.sql_parser.specs.Tokens.{is_white, is_letter, is_name_byte, is_digit_or_minus, is_spelled, symbol_text}
+use Rattle.sql_parser.specs.Tokens.{without_minus}
 use Rattle.sql_parser.specs.Reading.{◌>>=◌, statement_at}
 use Rattle.sql_parser.specs.declared.tokens.Symbol.{Symbol}
 use Rattle.sql_parser.specs.declared.tokens.Token.{Token}
@@ -22,13 +24,15 @@ abbrev pub with_byte : ℕ → Option (List ℕ × List ℕ) → Option (List �
 with_byte byte None = None
 with_byte byte (Some found) = Some (byte ∷ found.0, found.1)
 
--- what stands before the closing quote, each doubled quote once, and what follows that quote; behind a quote the next byte
--- tells whether that is doubled or closes
+-- what stands before the closing quote, each doubled quote once, and what follows that quote; behind a quote the next
+-- byte tells whether that is doubled or closes
 abbrev pub unquoted : ℕ → Bool → List ℕ → Option (List ℕ × List ℕ)
 unquoted quote false [] = None
 unquoted quote true [] = Some ([], [])
-unquoted quote false (byte ∷ bytes) = (if byte == quote then unquoted quote true bytes else with_byte byte (unquoted quote false bytes))
-unquoted quote true (byte ∷ bytes) = (if byte == quote then with_byte quote (unquoted quote false bytes) else Some ([], byte ∷ bytes))
+unquoted quote false (byte ∷ bytes) =
+    (if byte == quote then unquoted quote true bytes else with_byte byte (unquoted quote false bytes))
+unquoted quote true (byte ∷ bytes) =
+    (if byte == quote then with_byte quote (unquoted quote false bytes) else Some ([], byte ∷ bytes))
 
 -- a name, behind its first double quote; it has a byte
 abbrev pub quoted_name_at : List ℕ → Option (Token × List ℕ)
@@ -62,7 +66,8 @@ word_of word (Some reserved) = token.Symbol reserved
 -- a word: all the letters and digits
 abbrev pub word_at : List ℕ → Token × List ℕ
 word_at text = (
-  word_of (take (prefix_len is_name_byte text) text) (find (λ m. is_spelled (take (prefix_len is_name_byte text) text) m) RESERVED),
+  word_of (take (prefix_len is_name_byte text) text)
+      (find (λ m. is_spelled (take (prefix_len is_name_byte text) text) m) RESERVED),
   drop (prefix_len is_name_byte text) text,
 )
 

@@ -1,5 +1,6 @@
 -- A statement as contracts see it, and what every statement is.
-use Rattle.std.specs.Prelude.{ℕ, ◌^◌, nat_lt, ℤ, pos, negsuc, List, [], ◌∷◌, Bool, true, false, ◌&&◌, IsTrue, Option, Some, None}
+use Rattle.std.specs.Prelude.{ℕ, ◌^◌, nat_lt, ℤ, pos, negsuc, List, [], ◌∷◌, Bool, true, false, ◌&&◌, IsTrue, Option}
+use Rattle.std.specs.Prelude.{Some, None}
 use Rattle.row_values.specs.declared.values.Value.TheVariants.{Int, Text}
 use Rattle.sql_parser.specs.declared.statement.RawRef.{RawRef}
 use Rattle.sql_parser.specs.declared.statement.RawPlace.{RawPlace}

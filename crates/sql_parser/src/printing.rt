@@ -40,7 +40,8 @@ fn push_ref(out: &mut String, at: &RawRef) -> Result<(), OutOfMemory>
 
 /// Writes an aggregate of a column.
 fn push_aggregate(out: &mut String, name: &str, at: &RawRef) -> Result<(), OutOfMemory>
-    ensures { OnOk result (string_bytes out.new ≡ string_bytes out.old ++ (name.now ++ spelled.ref_text at.now ++ codes ")")) }
+    ensures { OnOk result (string_bytes out.new
+        ≡ string_bytes out.old ++ (name.now ++ spelled.ref_text at.now ++ codes ")")) }
 {
     out.push_str(name)?;
     push_ref(out, at)?;
@@ -92,7 +93,8 @@ fn push_compared(
     sign: &str,
     operand: &RawOperand,
 ) -> Result<(), OutOfMemory>
-    ensures { OnOk result (string_bytes out.new ≡ string_bytes out.old ++ (sign.now ++ spelled.operand_text operand.now)) }
+    ensures { OnOk result (string_bytes out.new
+        ≡ string_bytes out.old ++ (sign.now ++ spelled.operand_text operand.now)) }
 {
     out.push_str(sign)?;
     push_operand(alloc, out, operand)?;
@@ -107,7 +109,8 @@ fn push_operands(
     separator: &str,
     operands: &[RawOperand],
 ) -> Result<(), OutOfMemory>
-    ensures { OnOk result (string_bytes out.new ≡ string_bytes out.old ++ spelled.listed_text word.now separator.now spelled.operand_text operands.now) }
+    ensures { OnOk result (string_bytes out.new
+        ≡ string_bytes out.old ++ spelled.listed_text word.now separator.now spelled.operand_text operands.now) }
 {
     let mut before = word;
     for part in operands {
@@ -178,7 +181,8 @@ fn push_items(
     separator: &str,
     items: &[RawItem],
 ) -> Result<(), OutOfMemory>
-    ensures { OnOk result (string_bytes out.new ≡ string_bytes out.old ++ spelled.listed_text word.now separator.now spelled.item_text items.now) }
+    ensures { OnOk result (string_bytes out.new
+        ≡ string_bytes out.old ++ spelled.listed_text word.now separator.now spelled.item_text items.now) }
 {
     let mut before = word;
     for part in items {
@@ -196,7 +200,8 @@ fn push_places(
     separator: &str,
     places: &[RawPlace],
 ) -> Result<(), OutOfMemory>
-    ensures { OnOk result (string_bytes out.new ≡ string_bytes out.old ++ spelled.listed_text word.now separator.now spelled.place_text places.now) }
+    ensures { OnOk result (string_bytes out.new
+        ≡ string_bytes out.old ++ spelled.listed_text word.now separator.now spelled.place_text places.now) }
 {
     let mut before = word;
     for part in places {
@@ -215,7 +220,8 @@ fn push_conds(
     separator: &str,
     conds: &[RawCond],
 ) -> Result<(), OutOfMemory>
-    ensures { OnOk result (string_bytes out.new ≡ string_bytes out.old ++ spelled.listed_text word.now separator.now spelled.cond_text conds.now) }
+    ensures { OnOk result (string_bytes out.new
+        ≡ string_bytes out.old ++ spelled.listed_text word.now separator.now spelled.cond_text conds.now) }
 {
     let mut before = word;
     for part in conds {
@@ -233,7 +239,8 @@ fn push_refs(
     separator: &str,
     refs: &[RawRef],
 ) -> Result<(), OutOfMemory>
-    ensures { OnOk result (string_bytes out.new ≡ string_bytes out.old ++ spelled.listed_text word.now separator.now spelled.ref_text refs.now) }
+    ensures { OnOk result (string_bytes out.new
+        ≡ string_bytes out.old ++ spelled.listed_text word.now separator.now spelled.ref_text refs.now) }
 {
     let mut before = word;
     for part in refs {
@@ -251,7 +258,8 @@ fn push_keys(
     separator: &str,
     keys: &[RawKey],
 ) -> Result<(), OutOfMemory>
-    ensures { OnOk result (string_bytes out.new ≡ string_bytes out.old ++ spelled.listed_text word.now separator.now spelled.key_text keys.now) }
+    ensures { OnOk result (string_bytes out.new
+        ≡ string_bytes out.old ++ spelled.listed_text word.now separator.now spelled.key_text keys.now) }
 {
     let mut before = word;
     for part in keys {

@@ -189,7 +189,8 @@ fn take_between(tokens: &mut VecDeque<Token>) -> Result<RawTest, ParseFault>
 
 /// Takes operands, a comma between two.
 fn take_operands(alloc: Global, tokens: &mut VecDeque<Token>) -> Result<Vec<RawOperand>, ParseFault>
-    ensures { read.Gives (λ v. v.items) result tokens.new.items (read.list_at symbol.Comma read.operand_at tokens.old.items) }
+    ensures { read.Gives (λ v. v.items) result tokens.new.items
+        (read.list_at symbol.Comma read.operand_at tokens.old.items) }
 {
     let mut operands = Vec::new(alloc);
     let first = take_operand(tokens)?;
@@ -277,7 +278,8 @@ fn take_key(tokens: &mut VecDeque<Token>) -> Result<RawKey, ParseFault>
 
 /// Takes items, a comma between two.
 fn take_items(alloc: Global, tokens: &mut VecDeque<Token>) -> Result<Vec<RawItem>, ParseFault>
-    ensures { read.Gives (λ v. v.items) result tokens.new.items (read.list_at symbol.Comma read.item_at tokens.old.items) }
+    ensures { read.Gives (λ v. v.items) result tokens.new.items
+        (read.list_at symbol.Comma read.item_at tokens.old.items) }
 {
     let mut items = Vec::new(alloc);
     let first = take_item(tokens)?;
@@ -291,7 +293,8 @@ fn take_items(alloc: Global, tokens: &mut VecDeque<Token>) -> Result<Vec<RawItem
 
 /// Takes conditions, AND between two.
 fn take_conds(alloc: Global, tokens: &mut VecDeque<Token>) -> Result<Vec<RawCond>, ParseFault>
-    ensures { read.Gives (λ v. v.items) result tokens.new.items (read.list_at symbol.And read.cond_at tokens.old.items) }
+    ensures { read.Gives (λ v. v.items) result tokens.new.items
+        (read.list_at symbol.And read.cond_at tokens.old.items) }
 {
     let mut conds = Vec::new(alloc);
     let first = take_cond(alloc, tokens)?;
@@ -305,7 +308,8 @@ fn take_conds(alloc: Global, tokens: &mut VecDeque<Token>) -> Result<Vec<RawCond
 
 /// Takes references, a comma between two.
 fn take_refs(alloc: Global, tokens: &mut VecDeque<Token>) -> Result<Vec<RawRef>, ParseFault>
-    ensures { read.Gives (λ v. v.items) result tokens.new.items (read.list_at symbol.Comma read.ref_at tokens.old.items) }
+    ensures { read.Gives (λ v. v.items) result tokens.new.items
+        (read.list_at symbol.Comma read.ref_at tokens.old.items) }
 {
     let mut refs = Vec::new(alloc);
     let first = take_ref(tokens)?;
@@ -319,7 +323,8 @@ fn take_refs(alloc: Global, tokens: &mut VecDeque<Token>) -> Result<Vec<RawRef>,
 
 /// Takes keys, a comma between two.
 fn take_keys(alloc: Global, tokens: &mut VecDeque<Token>) -> Result<Vec<RawKey>, ParseFault>
-    ensures { read.Gives (λ v. v.items) result tokens.new.items (read.list_at symbol.Comma read.key_at tokens.old.items) }
+    ensures { read.Gives (λ v. v.items) result tokens.new.items
+        (read.list_at symbol.Comma read.key_at tokens.old.items) }
 {
     let mut keys = Vec::new(alloc);
     let first = take_key(tokens)?;
@@ -341,7 +346,8 @@ struct Join {
 /// Takes JOIN and what stands behind it.
 #[tactic(auto, unfolding(crate::specs::Reading::join_at))]
 fn take_join(alloc: Global, tokens: &mut VecDeque<Token>) -> Result<Join, ParseFault>
-    ensures { read.Gives (λ j. record { place = j.place; conds = j.conds.items }) result tokens.new.items (read.join_at tokens.old.items) }
+    ensures { read.Gives (λ j. record { place = j.place; conds = j.conds.items }) result tokens.new.items
+        (read.join_at tokens.old.items) }
 {
     expect(tokens, Symbol::Join)?;
     let place = take_place(alloc, tokens)?;
@@ -353,7 +359,8 @@ fn take_join(alloc: Global, tokens: &mut VecDeque<Token>) -> Result<Join, ParseF
 /// Takes a further place, behind a comma or a JOIN.
 #[tactic(auto, unfolding(crate::specs::Reading::joined_at))]
 fn take_joined(alloc: Global, tokens: &mut VecDeque<Token>) -> Result<Join, ParseFault>
-    ensures { read.Gives (λ j. record { place = j.place; conds = j.conds.items }) result tokens.new.items (read.joined_at tokens.old.items) }
+    ensures { read.Gives (λ j. record { place = j.place; conds = j.conds.items }) result tokens.new.items
+        (read.joined_at tokens.old.items) }
 {
     if accept(tokens, Symbol::Comma) {
         let place = take_place(alloc, tokens)?;

@@ -2,7 +2,8 @@
 //!
 //! Every `Select` has an item and a place, and no name in it is empty, as no statement spells another; so each has
 //! a spelling. `parse` is the one way in.
-//! To add a part, add it here, a production to `specs/Grammar.antt`, and its canonical spelling to `specs/Canonical.antt`.
+//! To add a part, add it here, a production to `specs/Grammar.antt`, and its canonical spelling to
+//! `specs/Canonical.antt`.
 ghost use Rattle.std.specs.Prelude.{◌≡◌, ◌<◌, length};
 ghost use Rattle.sql_parser.specs.Statement.{IsSound};
 
@@ -75,8 +76,29 @@ impl RawOperands {
     }
 }
 
+impl PartialEq for RawOperands {
+    ghost use Rattle.std.specs.Cmp.Lexicographic.{pointwise, lists_per};
+    ghost use Rattle.sql_parser.specs.contracts.statement.RawOperandPartialEq.TheImpl.{ghosts};
+    ghost use Rattle.sql_parser.specs.contracts.statement.RawOperandPartialEq.TheImpl.Laws.{laws-law};
+
+    ghost eq = { pointwise ghosts.eq };
+
+    ghost laws = { lists_per laws-law };
+
+    fn eq(&self, other: &RawOperands) -> bool {
+        self.parts.as_slice() == other.parts.as_slice()
+    }
+}
+
+impl Eq for RawOperands {
+    ghost use Rattle.std.specs.Cmp.Lexicographic.{lists_equiv};
+    ghost use Rattle.sql_parser.specs.contracts.statement.RawOperandEq.TheImpl.Laws.{laws-law};
+
+    ghost laws = { lists_equiv laws-law };
+}
+
 /// The test that a predicate makes of its column; both ends of BETWEEN are taken.
-#[derive(Debug, Drop)]
+#[derive(Debug, Drop, PartialEq, Eq)]
 pub enum RawTest {
     Lt(RawOperand),
     Le(RawOperand),
@@ -88,7 +110,7 @@ pub enum RawTest {
 }
 
 /// A condition: a predicate on one column, or the equality of two columns.
-#[derive(Debug, Drop)]
+#[derive(Debug, Drop, PartialEq, Eq)]
 pub enum RawCond {
     Test(RawRef, RawTest),
     Same(RawRef, RawRef),

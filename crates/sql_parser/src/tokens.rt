@@ -353,7 +353,8 @@ fn after_white(text: &str) -> &str
 /// The tokens of a text; `Syntax` exactly where it doesn't fall into tokens.
 pub fn tokens_of(alloc: Global, text: &str) -> Result<VecDeque<Token>, ParseFault>
     ensures found { IfOk result (λ tokens. spelled.AreTokens text.now tokens.items) }
-    ensures only { IfOk result (λ tokens. (others : List Token) → spelled.AreTokens text.now others → others ≡ tokens.items) }
+    ensures only { IfOk result (λ tokens. (others : List Token) → spelled.AreTokens text.now others
+        → others ≡ tokens.items) }
     ensures syntax { IsErrOf result ParseFault.Syntax → (others : List Token) → ¬ spelled.AreTokens text.now others }
 {
     let mut tokens = VecDeque::new(alloc);

@@ -1,4 +1,4 @@
-use Rattle.sql_parser.proofs.Spelled.{first_sound, first_again}
+use Rattle.sql_parser.proofs.FunctionsAreGrammar.{first_sound, first_again}
 use Rattle.sql_parser.proofs.laws.first_at_is_the_grammar.Goals as goal
 
 pub returns-clause-only : goal.returns-clause-only

@@ -1,4 +1,4 @@
-use Rattle.sql_parser.proofs.Texts.{read_once}
+use Rattle.sql_parser.proofs.TextsReadOnce.{read_once}
 use Rattle.sql_parser.proofs.laws.one_reading.Goals as goal
 
 pub returns : goal.returns

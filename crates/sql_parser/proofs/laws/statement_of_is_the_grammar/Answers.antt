@@ -1,4 +1,4 @@
-use Rattle.sql_parser.proofs.Spelled.{spelled_only, spelled_all}
+use Rattle.sql_parser.proofs.FunctionsAreGrammar.{spelled_only, spelled_all}
 use Rattle.sql_parser.proofs.laws.statement_of_is_the_grammar.Goals as goal
 
 pub returns-clause-only : goal.returns-clause-only

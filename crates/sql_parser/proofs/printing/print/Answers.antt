@@ -2,7 +2,7 @@ use Rattle.std.proofs.Common.{◌≡◌, ℕ, List, rules, arith, sym, subst}
 use Rattle.std.proofs.lemmas.Grind.{common_steps}
 use Rattle.sql_parser.specs.Canonical.{canonical_text}
 use Rattle.sql_parser.specs.Grammar.{IsStatementText}
-use Rattle.sql_parser.proofs.Lexing.{canonical_read}
+use Rattle.sql_parser.proofs.CanonicalIsRead.{canonical_read}
 use Rattle.sql_parser.proofs.printing.print.Goals as goal
 
 pub returns-clause-read_again : goal.returns-clause-read_again

@@ -6,4 +6,6 @@ use Rattle.sql_parser.proofs.printing.push_refs.Given as goal
 
 -- the parts that are left complete the spelling
 abbrev pub invariant-loop-part : goal.invariant-loop-part
-invariant-loop-part l = shadow (Utf8 l.before) × (string_bytes l.out ++ listed_text l.before l.separator ref_text (drop l.part-index l.refs) ≡ string_bytes l.fn.out ++ listed_text l.word l.separator ref_text l.refs)
+invariant-loop-part l = shadow (Utf8 l.before)
+    × (string_bytes l.out ++ listed_text l.before l.separator ref_text (drop l.part-index l.refs)
+    ≡ string_bytes l.fn.out ++ listed_text l.word l.separator ref_text l.refs)

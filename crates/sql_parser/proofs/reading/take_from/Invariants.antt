@@ -1,5 +1,5 @@
 use Rattle.std.proofs.Common.{length}
-use Rattle.sql_parser.proofs.Lists.{InFrom}
+use Rattle.sql_parser.proofs.ListsInLoops.{InFrom}
 use Rattle.sql_parser.proofs.reading.take_from.Given as goal
 
 -- the places and conditions that were read so far, and what is left to read

@@ -1,7 +1,7 @@
 use Rattle.std.proofs.Common.{length}
 use Rattle.sql_parser.specs.Reading.{operand_at}
 use Rattle.sql_parser.specs.declared.tokens.Symbol.TheVariants as symbol
-use Rattle.sql_parser.proofs.Lists.{InList}
+use Rattle.sql_parser.proofs.ListsInLoops.{InList}
 use Rattle.sql_parser.proofs.reading.take_operands.Given as goal
 
 -- what was read so far, and what is left to read

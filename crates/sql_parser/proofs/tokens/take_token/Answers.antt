@@ -2,14 +2,17 @@ use Rattle.std.proofs.Common.{◌≡◌, ◌∙◌, List, ℕ, Option, Some, Non
 use Rattle.sql_parser.specs.Spelled.{first_at}
 use Rattle.sql_parser.specs.Tokens.{IsFirst}
 use Rattle.sql_parser.specs.declared.tokens.Token.{Token}
-use Rattle.sql_parser.proofs.Spelled.{first_sound, first_again}
+use Rattle.sql_parser.proofs.FunctionsAreGrammar.{first_sound, first_again}
 use Rattle.sql_parser.proofs.tokens.take_token.Goals as goal
 
 -- nothing is found where no token stands
 none_there : (text : List ℕ) → ((other : Token) (rest : List ℕ) → IsFirst other text rest → ⊥) → None ≡ first_at text
 none_there text h =
     let step : (o : Option (Token × List ℕ)) → first_at text ≡ o → None ≡ o =
-    λ o. elim o as (λ o. first_at text ≡ o → None ≡ o) [ None ↦ λ e. refl | Some found ↦ λ e. absurd (h found.0 found.1 (first_sound text found e)) ]
+    λ o. elim o as (λ o. first_at text ≡ o → None ≡ o) [
+      | None ↦ λ e. refl
+      | Some found ↦ λ e. absurd (h found.0 found.1 (first_sound text found e))
+    ]
     in step (first_at text) refl
 
 pub returns-in-Err-Syntax : goal.returns-in-Err-Syntax

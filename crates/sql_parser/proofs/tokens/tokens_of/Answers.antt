@@ -2,11 +2,15 @@ use Rattle.std.proofs.Common.{◌≡◌, ◌<◌, length, arith}
 use Rattle.std.proofs.lemmas.Bool.Decides.{nat_tests}
 use Rattle.std.proofs.lemmas.Result.{err_from_is_err_and}
 use Rattle.sql_parser.specs.declared.faults.ParseFault.TheVariants as fault
-use Rattle.sql_parser.proofs.Signs.{read_none, read_one, read_all, read_only, read_stuck, step_shorter}
+use Rattle.sql_parser.proofs.TokensOnce.{read_none, read_one, read_all, read_only, read_stuck, step_shorter}
 use Rattle.sql_parser.proofs.tokens.tokens_of.Goals as goal
 
 pub loop-rest-init : goal.loop-rest-init
-loop-rest-init c = (c.after_white-rest.utf8, rw (c.new-tokens.ensures.items) (read_none c.args.text.now c.after_white-rest.result.now c.after_white-rest.ensures))
+loop-rest-init c = (
+  c.after_white-rest.utf8,
+  rw (c.new-tokens.ensures.items)
+      (read_none c.args.text.now c.after_white-rest.result.now c.after_white-rest.ensures),
+)
 
 pub returns-in_err-token-clause-syntax : goal.returns-in_err-token-clause-syntax
 returns-in_err-token-clause-syntax c = λ s others are.
@@ -15,17 +19,22 @@ returns-in_err-token-clause-syntax c = λ s others are.
     let t = rw (p.1) at s in
     let e : c.in_err-token.field-0.0 ≡ fault.Syntax = cc in
     let z : 0 < length c.loop-rest.rest.now = grind (arith, nat_tests) in
-    read_stuck c.args.text.now c.loop-rest.tokens.items c.loop-rest.rest.now c.loop-rest.invariant.1 z (rw e at c.in_err-token.ensures) others are
+    read_stuck c.args.text.now c.loop-rest.tokens.items c.loop-rest.rest.now c.loop-rest.invariant.1 z
+    (rw e at c.in_err-token.ensures) others are
 
 pub loop-rest-smaller : goal.loop-rest-smaller
 loop-rest-smaller c =
-    step_shorter c.in_ok-token.token c.loop-rest.rest.now _ c.after_white-rest-in-loop-rest.result.now c.in_ok-token.ensures.0 (rw (c.range_from.ensures.value) at c.after_white-rest-in-loop-rest.ensures)
+    step_shorter c.in_ok-token.token c.loop-rest.rest.now _ c.after_white-rest-in-loop-rest.result.now
+    c.in_ok-token.ensures.0 (rw (c.range_from.ensures.value) at c.after_white-rest-in-loop-rest.ensures)
 
 pub loop-rest-preserved : goal.loop-rest-preserved
 loop-rest-preserved c = (
   c.after_white-rest-in-loop-rest.utf8,
-  rw (c.in_ok-push_back.ensures.items) (read_one c.args.text.now c.loop-rest.tokens.items c.loop-rest.rest.now c.in_ok-token.token _ c.after_white-rest-in-loop-rest.result.now
-      c.loop-rest.invariant.1 c.in_ok-token.ensures.0 (rw (c.range_from.ensures.value) at c.after_white-rest-in-loop-rest.ensures)),
+  rw (c.in_ok-push_back.ensures.items)
+      (read_one c.args.text.now c.loop-rest.tokens.items c.loop-rest.rest.now c.in_ok-token.token _
+      c.after_white-rest-in-loop-rest.result.now
+      c.loop-rest.invariant.1 c.in_ok-token.ensures.0
+      (rw (c.range_from.ensures.value) at c.after_white-rest-in-loop-rest.ensures)),
 )
 
 pub returns-clause-found : goal.returns-clause-found

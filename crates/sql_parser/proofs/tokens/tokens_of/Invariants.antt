@@ -1,7 +1,7 @@
 use denote.Text.{Utf8}
 use denote.Shadow.{shadow}
 use Rattle.std.proofs.Common.{length}
-use Rattle.sql_parser.proofs.Signs.{ReadSoFar}
+use Rattle.sql_parser.proofs.TokensOnce.{ReadSoFar}
 use Rattle.sql_parser.proofs.tokens.tokens_of.Given as goal
 
 -- the tokens of what is left are the further tokens of the text, and there are no others

@@ -10,12 +10,20 @@ range-word-requires-clause-end_boundary c = rw (c.word_len-len.ensures) (word_cu
 
 pub returns-in-Some : goal.returns-in-Some
 returns-in-Some c =
-    let w : c.range-word.result.now ≡ take (prefix_len spelled.is_name_byte c.args.text.now) c.args.text.now = grind arith in
-    let m : find (λ m. spelled.is_spelled c.range-word.result.now m) RESERVED ≡ Some c.in-Some.symbol = sym c.symbol_of.ensures ∙ c.in-Some.is in
-    rw (c.word_len-len.ensures) (symbol_word c.args.text.now c.range-word.result.now c.in-Some.symbol c.requires w m, word_cut c.args.text.now c.utf8.text)
+    let w : c.range-word.result.now ≡ take (prefix_len spelled.is_name_byte c.args.text.now) c.args.text.now =
+    grind arith in
+    let m : find (λ m. spelled.is_spelled c.range-word.result.now m) RESERVED ≡ Some c.in-Some.symbol =
+    sym c.symbol_of.ensures ∙ c.in-Some.is in
+    rw (c.word_len-len.ensures) (
+      symbol_word c.args.text.now c.range-word.result.now c.in-Some.symbol c.requires w m,
+      word_cut c.args.text.now c.utf8.text,
+    )
 
 pub returns-in_ok-of-in-None : goal.returns-in_ok-of-in-None
 returns-in_ok-of-in-None c =
-    let w : c.range-word.result.now ≡ take (prefix_len spelled.is_name_byte c.args.text.now) c.args.text.now = grind arith in
-    let m : find (λ m. spelled.is_spelled c.range-word.result.now m) RESERVED ≡ None = sym c.symbol_of.ensures ∙ c.in-None.is in
-    rw (c.in_ok-of-in-None.ensures, c.word_len-len.ensures) (name_word c.args.text.now c.range-word.result.now c.requires w m, word_cut c.args.text.now c.utf8.text)
+    let w : c.range-word.result.now ≡ take (prefix_len spelled.is_name_byte c.args.text.now) c.args.text.now =
+    grind arith in
+    let m : find (λ m. spelled.is_spelled c.range-word.result.now m) RESERVED ≡ None = sym c.symbol_of.ensures
+    ∙ c.in-None.is in
+    rw (c.in_ok-of-in-None.ensures, c.word_len-len.ensures)
+    (name_word c.args.text.now c.range-word.result.now c.requires w m, word_cut c.args.text.now c.utf8.text)

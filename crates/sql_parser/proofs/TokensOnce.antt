@@ -1,9 +1,10 @@
 -- Signs, and that one text has one first token and one list of tokens.
-use Rattle.std.proofs.Common.{◌≡◌, ℕ, zero, suc, ◌+◌, ◌<◌, ◌≤◌, ◌≢◌, Bool, true, false, cond, ◌||◌, nat_lt, nat_le, nat_eq, ◌==◌, Option, Some, None, List, [], ◌∷◌, ◌++◌, length, take, drop, find, refl, sym, ◌∙◌, ap, subst, arith, ◌⊎◌, inl, inr}
+use Rattle.std.proofs.Common.{◌≡◌, ℕ, ◌+◌, ◌<◌, ◌≤◌, ◌≢◌, Bool, true, false, ◌||◌, nat_lt, nat_le}
+use Rattle.std.proofs.Common.{nat_eq, ◌==◌, Option, Some, None, List, [], ◌∷◌, ◌++◌, length, take, drop, find, refl}
+use Rattle.std.proofs.Common.{sym, ◌∙◌, ap, subst, arith, ◌⊎◌, inl, inr}
 use Rattle.std.proofs.lemmas.Bool.Decides.{nat_tests}
 use Rattle.std.proofs.lemmas.List.{take-append-drop, append_assoc}
 use Rattle.std.proofs.lemmas.Slice.Eq.{bytes_eq-Decides}
-use Rattle.std.proofs.Common.{eq-eqb}
 use Rattle.std.specs.Str.{bytes_eq, str_to_ascii_lowercase}
 use Rattle.sql_parser.specs.Reading.{symbol_eq}
 use Rattle.sql_parser.specs.Tokens.{AreTokens, none, next}
@@ -15,33 +16,31 @@ use Rattle.std.proofs.Math.Seq.{take-append_seam, drop-append_seam}
 use Rattle.std.specs.List.{prefix_len, starts_with}
 use Rattle.row_values.specs.declared.values.Value.TheVariants.{Text}
 use Rattle.sql_parser.specs.Statement.{each}
-use Rattle.sql_parser.specs.Tokens.{is_white, is_letter, symbol_text, is_spelled, doubled, Spells, reserved_or_sign, begins_with, is_digit_or_minus, is_other, IsFirst}
+use Rattle.sql_parser.specs.Tokens.{is_white, is_letter, symbol_text, is_spelled, doubled, Spells, reserved_or_sign}
+use Rattle.sql_parser.specs.Tokens.{begins_with, is_digit_or_minus, is_other, IsFirst}
 use Rattle.sql_parser.specs.declared.tokens.Symbol.{Symbol}
 use Rattle.sql_parser.specs.declared.tokens.Symbol.TheVariants as symbol
 use Rattle.sql_parser.specs.declared.tokens.Token.{Token}
 use Rattle.sql_parser.specs.declared.tokens.Token.TheVariants as token
 use Rattle.sql_parser.specs.declared.tokens.TheConstants.{RESERVED, SIGNS}
-use Rattle.sql_parser.proofs.Quotes.{quoted_once}
+use Rattle.sql_parser.proofs.QuotesClose.{quoted_once}
 use Rattle.sql_parser.proofs.Symbols.{every, symbol_same, is_in, any_in, find_passes, none_passes}
-use Rattle.sql_parser.proofs.Runs.{both, and_true, run_passes, run_stops, run_is}
-use Rattle.sql_parser.proofs.Shapes.{nothing_spells, word_shape, number_shape, name_shape, text_shape, sign_shape, NameToken, TextToken, SignToken, WordToken, named, kept}
-
-bytes_eq_true : (a b : List ℕ) → bytes_eq a b ≡ true → a ≡ b
-bytes_eq_true a b h = grind (arith, bytes_eq-Decides a b)
-
-bytes_eq_same : (a : List ℕ) → bytes_eq a a ≡ true
-bytes_eq_same [] = refl
-bytes_eq_same (x ∷ a) = and_true (x == x) _ (eq-eqb x x refl) (bytes_eq_same a)
+use Rattle.sql_parser.proofs.Runs.{run_passes, run_stops, run_is}
+use Rattle.sql_parser.proofs.TokenShapes.{nothing_spells, word_shape, number_shape, name_shape, text_shape, sign_shape}
+use Rattle.sql_parser.proofs.TokenShapes.{NameToken, TextToken, SignToken, WordToken, named, kept}
+use Rattle.std.proofs.lemmas.Bool.{and_parts}
 
 pub spells_itself : (m : Symbol) → is_spelled (symbol_text m) m ≡ true
-spells_itself m = bytes_eq_same (str_to_ascii_lowercase (symbol_text m))
+spells_itself m = (bytes_eq-Decides (str_to_ascii_lowercase (symbol_text m)) (str_to_ascii_lowercase (symbol_text m))).1
+    refl
 
 -- a text that begins with a symbol's
 starts_whole : (text w : List ℕ) → starts_with nat_eq text w ≡ true → text ≡ w ++ drop (length w) text
-starts_whole text w h = sym (ap (λ z. z ++ drop (length w) text) (bytes_eq_true w (take (length w) text) h) ∙ take-append-drop (length w) text)
+starts_whole text w h = sym (ap (λ z. z ++ drop (length w) text) ((bytes_eq-Decides w (take (length w) text)).0 h)
+    ∙ take-append-drop (length w) text)
 
 starts_itself : (w rest : List ℕ) → starts_with nat_eq (w ++ rest) w ≡ true
-starts_itself w rest = rw (take-append_seam w rest) (bytes_eq_same w)
+starts_itself w rest = rw (take-append_seam w rest) ((bytes_eq-Decides w w).1 refl)
 
 -- a sign is among the signs
 sign_place : (m : Symbol) → begins_with is_other (symbol_text m) ≡ false → is_in m SIGNS ≡ true
@@ -54,7 +53,8 @@ some_text m = leb-true 1 (length (symbol_text m)) (every (λ m. nat_le 1 (length
 -- the sign that is found is the longest
 abbrev IsGreatest : Symbol → List ℕ → Symbol → Type 0
 IsGreatest m rest found =
-    find (λ n. starts_with nat_eq (symbol_text m ++ rest) (symbol_text n)) SIGNS ≡ Some found → length (symbol_text m) ≤ length (symbol_text found)
+    find (λ n. starts_with nat_eq (symbol_text m ++ rest) (symbol_text n)) SIGNS ≡ Some found
+    → length (symbol_text m) ≤ length (symbol_text found)
 
 at_most_greatest : (rest : List ℕ) (found : Symbol) → IsGreatest symbol.AtMost rest found
 at_most_greatest rest found e = let same : symbol.AtMost ≡ found = cc in rw (← same) (omega arith)
@@ -62,19 +62,25 @@ at_most_greatest rest found e = let same : symbol.AtMost ≡ found = cc in rw (�
 at_least_greatest : (rest : List ℕ) (found : Symbol) → IsGreatest symbol.AtLeast rest found
 at_least_greatest rest found e = let same : symbol.AtLeast ≡ found = cc in rw (← same) (omega arith)
 
-sign_greatest : (m : Symbol) (rest : List ℕ) (found : Symbol) → begins_with is_other (symbol_text m) ≡ false → IsGreatest m rest found
+sign_greatest : (m : Symbol) (rest : List ℕ) (found : Symbol) → begins_with is_other (symbol_text m) ≡ false
+    → IsGreatest m rest found
 unfolding symbol_eq
 sign_greatest m rest found o e =
     kind (nat_le (length (symbol_text m)) 1) (symbol_eq m symbol.AtMost) refl refl
-    (rw o at (every (λ m. begins_with is_other (symbol_text m) || (nat_le (length (symbol_text m)) 1 || (symbol_eq m symbol.AtMost || symbol_eq m symbol.AtLeast))) refl m))
+    (rw o at (every (λ m. begins_with is_other (symbol_text m)
+    || (nat_le (length (symbol_text m)) 1 || (symbol_eq m symbol.AtMost || symbol_eq m symbol.AtLeast))) refl m))
   where
-    kind : (v w : Bool) → nat_le (length (symbol_text m)) 1 ≡ v → symbol_eq m symbol.AtMost ≡ w → (v || (w || symbol_eq m symbol.AtLeast)) ≡ true
+    kind : (v w : Bool) → nat_le (length (symbol_text m)) 1 ≡ v → symbol_eq m symbol.AtMost ≡ w
+        → (v || (w || symbol_eq m symbol.AtLeast)) ≡ true
         → length (symbol_text m) ≤ length (symbol_text found)
     kind true w f g h = (let l = leb-true (length (symbol_text m)) 1 f in let k = some_text found in omega arith)
-    kind false true f g h = (let P : Symbol → Type 0 = λ z. IsGreatest z rest found in subst P (sym (symbol_same m symbol.AtMost g)) (at_most_greatest rest found) e)
-    kind false false f g h = (let P : Symbol → Type 0 = λ z. IsGreatest z rest found in subst P (sym (symbol_same m symbol.AtLeast h)) (at_least_greatest rest found) e)
+    kind false true f g h = (let P : Symbol → Type 0 = λ z. IsGreatest z rest found in
+        subst P (sym (symbol_same m symbol.AtMost g)) (at_most_greatest rest found) e)
+    kind false false f g h = (let P : Symbol → Type 0 = λ z. IsGreatest z rest found in
+        subst P (sym (symbol_same m symbol.AtLeast h)) (at_least_greatest rest found) e)
 
-sign_of : (b : ℕ) (bs : List ℕ) → is_other b ≡ false → (other : Token) (bytes more : List ℕ) → b ∷ bs ≡ bytes ++ more → Spells other bytes more → SignToken other bytes
+sign_of : (b : ℕ) (bs : List ℕ) → is_other b ≡ false → (other : Token) (bytes more : List ℕ) → b ∷ bs ≡ bytes ++ more
+    → Spells other bytes more → SignToken other bytes
 sign_of b bs o other [] more e s = absurd (nothing_spells other more s)
 sign_of b bs o other (x ∷ xs) more e s =
     let same : b ≡ x = cc in
@@ -89,15 +95,19 @@ first_other b bs (x ∷ w) more o e =
     let P : ℕ → Type 0 = λ y. is_other y ≡ false in
     subst P same o
 
-sign_longest : (b : ℕ) (bs : List ℕ) (m : Symbol) → is_other b ≡ false → find (λ n. starts_with nat_eq (b ∷ bs) (symbol_text n)) SIGNS ≡ Some m
-    → {other : Token} (bytes more : List ℕ) → b ∷ bs ≡ bytes ++ more → SignToken other bytes → length bytes ≤ length (symbol_text m)
+sign_longest : (b : ℕ) (bs : List ℕ) (m : Symbol) → is_other b ≡ false
+    → find (λ n. starts_with nat_eq (b ∷ bs) (symbol_text n)) SIGNS ≡ Some m
+    → {other : Token} (bytes more : List ℕ) → b ∷ bs ≡ bytes ++ more → SignToken other bytes
+    → length bytes ≤ length (symbol_text m)
 sign_longest b bs m o e bytes more w shape =
     let whole : b ∷ bs ≡ symbol_text shape.sign ++ more = w ∙ ap (λ z. z ++ more) shape.text in
     let P : List ℕ → Type 0 = λ z. find (λ n. starts_with nat_eq z (symbol_text n)) SIGNS ≡ Some m in
-    let n = sign_greatest shape.sign more m (first_other b bs (symbol_text shape.sign) more o whole) (subst P whole e) in
+    let n = sign_greatest shape.sign more m (first_other b bs (symbol_text shape.sign) more o whole)
+    (subst P whole e) in
     omega (arith, n, ap length shape.text)
 
-sign_absent : (b : ℕ) (bs : List ℕ) → is_other b ≡ false → find (λ n. starts_with nat_eq (b ∷ bs) (symbol_text n)) SIGNS ≡ None
+sign_absent : (b : ℕ) (bs : List ℕ) → is_other b ≡ false → find (λ n. starts_with nat_eq (b ∷ bs) (symbol_text n)) SIGNS
+    ≡ None
     → {other : Token} (bytes more : List ℕ) → b ∷ bs ≡ bytes ++ more → SignToken other bytes → ⊥
 sign_absent b bs o e bytes more w shape =
     let whole : b ∷ bs ≡ symbol_text shape.sign ++ more = w ∙ ap (λ z. z ++ more) shape.text in
@@ -108,23 +118,29 @@ sign_absent b bs o e bytes more w shape =
     let a = any_in (λ n. starts_with nat_eq (b ∷ bs) (symbol_text n)) shape.sign SIGNS place k in
     cc
 
-pub sign_first : (b : ℕ) (bs : List ℕ) (m : Symbol) → is_other b ≡ false → find (λ n. starts_with nat_eq (b ∷ bs) (symbol_text n)) SIGNS ≡ Some m
+pub sign_first : (b : ℕ) (bs : List ℕ) (m : Symbol) → is_other b ≡ false
+    → find (λ n. starts_with nat_eq (b ∷ bs) (symbol_text n)) SIGNS ≡ Some m
     → IsFirst (token.Symbol m) (b ∷ bs) (drop (length (symbol_text m)) (b ∷ bs))
 sign_first b bs m o e = record {
   prefix = symbol_text m;
-  whole = starts_whole (b ∷ bs) (symbol_text m) (find_passes (λ n. starts_with nat_eq (b ∷ bs) (symbol_text n)) SIGNS m e);
+  whole = starts_whole (b ∷ bs) (symbol_text m)
+      (find_passes (λ n. starts_with nat_eq (b ∷ bs) (symbol_text n)) SIGNS m e);
   spelled = reserved_or_sign (spells_itself m);
   longest = λ other bytes more w sp. sign_longest b bs m o e bytes more w (sign_of b bs o other bytes more w sp);
 }
 
-pub sign_whole : (b : ℕ) (bs : List ℕ) (m : Symbol) → find (λ n. starts_with nat_eq (b ∷ bs) (symbol_text n)) SIGNS ≡ Some m
+pub sign_whole : (b : ℕ) (bs : List ℕ) (m : Symbol) → find (λ n. starts_with nat_eq (b ∷ bs) (symbol_text n)) SIGNS
+    ≡ Some m
     → b ∷ bs ≡ symbol_text m ++ drop (length (symbol_text m)) (b ∷ bs)
-sign_whole b bs m e = starts_whole (b ∷ bs) (symbol_text m) (find_passes (λ n. starts_with nat_eq (b ∷ bs) (symbol_text n)) SIGNS m e)
+sign_whole b bs m e = starts_whole (b ∷ bs) (symbol_text m)
+    (find_passes (λ n. starts_with nat_eq (b ∷ bs) (symbol_text n)) SIGNS m e)
 
-pub sign_none : (b : ℕ) (bs : List ℕ) → is_other b ≡ false → find (λ n. starts_with nat_eq (b ∷ bs) (symbol_text n)) SIGNS ≡ None
+pub sign_none : (b : ℕ) (bs : List ℕ) → is_other b ≡ false
+    → find (λ n. starts_with nat_eq (b ∷ bs) (symbol_text n)) SIGNS ≡ None
     → (other : Token) (rest : List ℕ) → IsFirst other (b ∷ bs) rest → ⊥
 sign_none b bs o e other rest first =
-    sign_absent b bs o e first.prefix rest first.whole (sign_of b bs o other first.prefix rest first.whole first.spelled)
+    sign_absent b bs o e first.prefix rest first.whole
+    (sign_of b bs o other first.prefix rest first.whole first.spelled)
 
 -- symbols differ in their letters
 lower_symbol : List ℕ → Option Symbol
@@ -141,12 +157,13 @@ found_is m (Some x) h = ap (λ z. Some z) (symbol_same x m h)
 
 lower_symbol_of : (m : Symbol) → lower_symbol (str_to_ascii_lowercase (symbol_text m)) ≡ Some m
 unfolding lower_symbol is_found symbol_eq
-lower_symbol_of m = found_is m _ (every (λ m. is_found m (lower_symbol (str_to_ascii_lowercase (symbol_text m)))) refl m)
+lower_symbol_of m = found_is m _
+    (every (λ m. is_found m (lower_symbol (str_to_ascii_lowercase (symbol_text m)))) refl m)
 
 pub symbols_same : (w : List ℕ) (m n : Symbol) → is_spelled w m ≡ true → is_spelled w n ≡ true → m ≡ n
 symbols_same w m n h k =
-    let a = bytes_eq_true _ _ h in
-    let b = bytes_eq_true _ _ k in
+    let a = (bytes_eq-Decides _ _).0 h in
+    let b = (bytes_eq-Decides _ _).0 k in
     let c = lower_symbol_of m in
     let d = lower_symbol_of n in
     let e : str_to_ascii_lowercase (symbol_text m) ≡ str_to_ascii_lowercase (symbol_text n) = sym a ∙ b in
@@ -159,14 +176,16 @@ word_same t u w (named r) (kept {m} k s) = cc
 word_same t u w (kept {m} k s) (named r) = cc
 word_same t u w (kept {m} h r) (kept {m = n} k s) = ap token.Symbol (symbols_same w m n h k)
 
-kinds : {A B : Type 0} (l d p q : Bool) → (p ≡ true → A) → (q ≡ true → B) → (l ≡ true) ⊎ ((d ≡ true) ⊎ (A ⊎ (B ⊎ ((((l || d) || p) || q) ≡ false))))
+kinds : {A B : Type 0} (l d p q : Bool) → (p ≡ true → A) → (q ≡ true → B)
+    → (l ≡ true) ⊎ ((d ≡ true) ⊎ (A ⊎ (B ⊎ ((((l || d) || p) || q) ≡ false))))
 kinds true d p q f g = inl refl
 kinds false true p q f g = inr (inl refl)
 kinds false false true q f g = inr (inr (inl (f refl)))
 kinds false false false true f g = inr (inr (inr (inl (g refl))))
 kinds false false false false f g = inr (inr (inr (inr refl)))
 
-kind_of : (b : ℕ) → (is_letter b ≡ true) ⊎ ((is_digit_or_minus b ≡ true) ⊎ ((b ≡ 34) ⊎ ((b ≡ 39) ⊎ (is_other b ≡ false))))
+kind_of : (b : ℕ) → (is_letter b ≡ true)
+    ⊎ ((is_digit_or_minus b ≡ true) ⊎ ((b ≡ 34) ⊎ ((b ≡ 39) ⊎ (is_other b ≡ false))))
 kind_of b = kinds (is_letter b) (is_digit_or_minus b) (b == 34) (b == 39) (eqb-true b 34) (eqb-true b 39)
 
 same_names : (t u : Token) (bs rest : List ℕ) → NameToken t bs rest → NameToken u bs rest → t ≡ u
@@ -236,8 +255,15 @@ first_once t u text r s a b =
     (first_same t u a.prefix b.prefix r s parts.0 parts.1 a.spelled b.spelled, parts.1)
 
 -- no token begins with white space
-not_white : (b : ℕ) → is_white b ≡ true → (is_letter b ≡ false) × (is_digit_or_minus b ≡ false) × (b ≢ 34) × (b ≢ 39) × ((is_other b ≡ false) × (nat_lt b 33 ≡ true))
-not_white b h = (grind (arith, nat_tests), grind (arith, nat_tests), (λ e. grind (arith, nat_tests)), (λ e. grind (arith, nat_tests)), (grind (arith, nat_tests), grind (arith, nat_tests)))
+not_white : (b : ℕ) → is_white b ≡ true → (is_letter b ≡ false) × (is_digit_or_minus b ≡ false) × (b ≢ 34) × (b ≢ 39)
+    × ((is_other b ≡ false) × (nat_lt b 33 ≡ true))
+not_white b h = (
+  grind (arith, nat_tests),
+  grind (arith, nat_tests),
+  (λ e. grind (arith, nat_tests)),
+  (λ e. grind (arith, nat_tests)),
+  (grind (arith, nat_tests), grind (arith, nat_tests)),
+)
 
 white_head : (b c : ℕ) (bs cs : List ℕ) → b ∷ bs ≡ c ∷ cs → nat_lt c 33 ≡ false → nat_lt b 33 ≡ true → ⊥
 white_head b c bs cs e f h = let same : b ≡ c = cc in let g : nat_lt c 33 ≡ true = rw (← same) h in cc
@@ -281,11 +307,16 @@ first_not_white t b bs rest h s =
     let shape = sign_shape t b bs rest w.4.0 s in
     sign_not_white shape.sign b bs shape.text w.4.1
 
-black : (t : Token) (text prefix rest : List ℕ) → text ≡ prefix ++ rest → Spells t prefix rest → begins_with is_white text ≡ false
+black : (t : Token) (text prefix rest : List ℕ) → text ≡ prefix ++ rest → Spells t prefix rest
+    → begins_with is_white text ≡ false
 black t text [] rest e s = absurd (nothing_spells t rest s)
 black t text (b ∷ bs) rest e s =
     let P : List ℕ → Type 0 = λ z. begins_with is_white z ≡ false in
-    let f : is_white b ≡ false = (let step : (v : Bool) → is_white b ≡ v → v ≡ false = λ v. elim v as (λ v. is_white b ≡ v → v ≡ false) [ true ↦ λ h. absurd (first_not_white t b bs rest h s) | false ↦ λ h. refl ] in step (is_white b) refl) in
+    let f : is_white b ≡ false = (let step : (v : Bool) → is_white b ≡ v → v ≡ false =
+    λ v. elim v as (λ v. is_white b ≡ v → v ≡ false) [
+      | true ↦ λ h. absurd (first_not_white t b bs rest h s)
+      | false ↦ λ h. refl
+    ] in step (is_white b) refl) in
     subst P (sym e) f
 
 empty_front : (t : Token) (prefix rest : List ℕ) → [] ≡ prefix ++ rest → Spells t prefix rest → ⊥
@@ -299,7 +330,8 @@ pub first_some : (t : Token) (rest : List ℕ) → IsFirst t [] rest → ⊥
 first_some t rest first = empty_front t first.prefix rest first.whole first.spelled
 
 -- white space in front of tokens
-pub white_on : (white text : List ℕ) (tokens : List Token) → each is_white white ≡ true → AreTokens text tokens → AreTokens (white ++ text) tokens
+pub white_on : (white text : List ℕ) (tokens : List Token) → each is_white white ≡ true → AreTokens text tokens
+    → AreTokens (white ++ text) tokens
 white_on white text tokens h (none {white = w} k) = none (each_append is_white white text h k)
 white_on white text tokens h (next w t rest k first more) =
     let P : List ℕ → Type 0 = λ z. AreTokens z tokens in
@@ -311,7 +343,8 @@ white_all text k =
     let P : List ℕ → Type 0 = λ z. drop (prefix_len is_white z) z ≡ [] in
     subst P (append-nil text) (rw run (drop-append_seam text []))
 
-pub white_off : (text : List ℕ) (tokens : List Token) → AreTokens text tokens → AreTokens (drop (prefix_len is_white text) text) tokens
+pub white_off : (text : List ℕ) (tokens : List Token) → AreTokens text tokens
+    → AreTokens (drop (prefix_len is_white text) text) tokens
 white_off text tokens (none k) =
     let P : List ℕ → Type 0 = λ z. AreTokens z [] in
     let rest : drop (prefix_len is_white text) text ≡ [] = white_all text k in
@@ -339,26 +372,30 @@ head_white t b bs rest first h = let k = begins_black t (b ∷ bs) rest first in
 
 pub all_white : (t : Token) (text rest : List ℕ) → IsFirst t text rest → each is_white text ≡ true → ⊥
 all_white t [] rest first k = first_some t rest first
-all_white t (b ∷ bs) rest first k = head_white t b bs rest first (both (is_white b) (each is_white bs) k).0
+all_white t (b ∷ bs) rest first k = head_white t b bs rest first (and_parts (is_white b) (each is_white bs) k).0
 
-pub goes_on : (text : List ℕ) (tokens : List Token) (t : Token) (rest : List ℕ) → AreTokens text tokens → IsFirst t text rest → GoesOn tokens t rest
+pub goes_on : (text : List ℕ) (tokens : List Token) (t : Token) (rest : List ℕ) → AreTokens text tokens
+    → IsFirst t text rest → GoesOn tokens t rest
 goes_on text tokens t rest (none k) first = absurd (all_white t text rest first k)
 goes_on text tokens t rest (next [] x r {first} {tokens = others} k f more) this =
     let same = first_once first t x r rest f this in
     let P : List ℕ → Type 0 = λ z. AreTokens z others in
     record { others = others; are = subst P same.1 more; whole = ap (λ z. z ∷ others) same.0 }
-goes_on text tokens t rest (next (b ∷ w) x r k f more) this = absurd (head_white t b (w ++ x) rest this (both (is_white b) (each is_white w) k).0)
+goes_on text tokens t rest (next (b ∷ w) x r k f more) this =
+    absurd (head_white t b (w ++ x) rest this (and_parts (is_white b) (each is_white w) k).0)
 
 -- a text with no first token has no tokens
 some_white : (text : List ℕ) → each is_white text ≡ true → begins_with is_white text ≡ false → 0 < length text → ⊥
 some_white [] k s l = absurd (omega arith)
-some_white (b ∷ bs) k s l = let h = (both (is_white b) (each is_white bs) k).0 in cc
+some_white (b ∷ bs) k s l = let h = (and_parts (is_white b) (each is_white bs) k).0 in cc
 
-pub nothing_first : (text : List ℕ) (tokens : List Token) → ((other : Token) (rest : List ℕ) → IsFirst other text rest → ⊥) → begins_with is_white text ≡ false
+pub nothing_first : (text : List ℕ) (tokens : List Token)
+    → ((other : Token) (rest : List ℕ) → IsFirst other text rest → ⊥) → begins_with is_white text ≡ false
     → 0 < length text → AreTokens text tokens → ⊥
 nothing_first text tokens no_first s l (none k) = some_white text k s l
 nothing_first text tokens no_first s l (next [] x r {first} k f more) = no_first first r f
-nothing_first text tokens no_first s l (next (c ∷ w) x r k f more) = let h = (both (is_white c) (each is_white w) k).0 in cc
+nothing_first text tokens no_first s l (next (c ∷ w) x r k f more) = let h =
+    (and_parts (is_white c) (each is_white w) k).0 in cc
 
 -- the tokens of the rest are the further tokens of the text, and there are no others
 pub record Follows (text : List ℕ) (read : List Token) (rest : List ℕ) (tokens : List Token) : Type 0 where
@@ -375,11 +412,13 @@ pub record ReadSoFar (text : List ℕ) (read : List Token) (rest : List ℕ) : T
 after : List ℕ → List ℕ
 after text = drop (prefix_len is_white text) text
 
-pub white_back : (text : List ℕ) (tokens : List Token) → AreTokens (drop (prefix_len is_white text) text) tokens → AreTokens text tokens
+pub white_back : (text : List ℕ) (tokens : List Token) → AreTokens (drop (prefix_len is_white text) text) tokens
+    → AreTokens text tokens
 white_back text tokens are =
     let P : List ℕ → Type 0 = λ z. AreTokens z tokens in
     subst P (take-append-drop (prefix_len is_white text) text)
-    (white_on (take (prefix_len is_white text) text) (drop (prefix_len is_white text) text) tokens (run_passes is_white text) are)
+    (white_on (take (prefix_len is_white text) text) (drop (prefix_len is_white text) text) tokens
+    (run_passes is_white text) are)
 
 pub read_none : (text rest : List ℕ) → rest ≡ drop (prefix_len is_white text) text → ReadSoFar text [] rest
 read_none text rest e =
@@ -390,7 +429,8 @@ read_none text rest e =
       complete = λ tokens are. record { others = tokens; are = white_off text tokens are; whole = refl };
     })
 
-pub read_one : (text : List ℕ) (read : List Token) (rest : List ℕ) (t : Token) (more next_rest : List ℕ) → ReadSoFar text read rest → IsFirst t rest more
+pub read_one : (text : List ℕ) (read : List Token) (rest : List ℕ) (t : Token) (more next_rest : List ℕ)
+    → ReadSoFar text read rest → IsFirst t rest more
     → next_rest ≡ drop (prefix_len is_white more) more → ReadSoFar text (read ++ t ∷ []) next_rest
 read_one text read rest t more next_rest so_far first e =
     let P : List ℕ → Type 0 = λ z. ReadSoFar text (read ++ t ∷ []) z in
@@ -398,7 +438,8 @@ read_one text read rest t more next_rest so_far first e =
       black = run_stops is_white more;
       sound = λ others are.
           let Q : List Token → Type 0 = λ z. AreTokens text z in
-          subst Q (sym (append_assoc read (t ∷ []) others)) (so_far.sound (t ∷ others) (next [] rest more refl first (white_back more others are)));
+          subst Q (sym (append_assoc read (t ∷ []) others))
+          (so_far.sound (t ∷ others) (next [] rest more refl first (white_back more others are)));
       complete = λ tokens are.
           let f = so_far.complete tokens are in
           let g = goes_on rest f.others t more f.are first in
@@ -409,20 +450,23 @@ read_one text read rest t more next_rest so_far first e =
           };
     })
 
-pub read_all : (text : List ℕ) (read : List Token) (rest : List ℕ) → ReadSoFar text read rest → length rest ≡ 0 → AreTokens text read
+pub read_all : (text : List ℕ) (read : List Token) (rest : List ℕ) → ReadSoFar text read rest → length rest ≡ 0
+    → AreTokens text read
 read_all text read [] so_far l =
     let P : List Token → Type 0 = λ z. AreTokens text z in
     subst P (append-nil read) (so_far.sound [] (none {white = []} refl))
 read_all text read (b ∷ rest) so_far l = absurd (omega arith)
 
-pub read_only : (text : List ℕ) (read : List Token) (rest : List ℕ) → ReadSoFar text read rest → length rest ≡ 0 → (others : List Token) → AreTokens text others → others ≡ read
+pub read_only : (text : List ℕ) (read : List Token) (rest : List ℕ) → ReadSoFar text read rest → length rest ≡ 0
+    → (others : List Token) → AreTokens text others → others ≡ read
 read_only text read [] so_far l others are =
     let f = so_far.complete others are in
     f.whole ∙ ap (λ z. read ++ z) (no_tokens [] f.others f.are refl) ∙ append-nil read
 read_only text read (b ∷ rest) so_far l others are = absurd (omega arith)
 
 pub read_stuck : (text : List ℕ) (read : List Token) (rest : List ℕ) → ReadSoFar text read rest → 0 < length rest
-    → ((other : Token) (more : List ℕ) → IsFirst other rest more → ⊥) → (others : List Token) → AreTokens text others → ⊥
+    → ((other : Token) (more : List ℕ) → IsFirst other rest more → ⊥) → (others : List Token) → AreTokens text others
+    → ⊥
 read_stuck text read rest so_far l no_first others are =
     let f = so_far.complete others are in nothing_first rest f.others no_first so_far.black l f.are
 
@@ -431,9 +475,11 @@ pub front_some : (t : Token) (prefix rest : List ℕ) → Spells t prefix rest �
 front_some t [] rest s = absurd (nothing_spells t rest s)
 front_some t (b ∷ bs) rest s = omega arith
 
-pub step_shorter : (t : Token) (rest more next_rest : List ℕ) → IsFirst t rest more → next_rest ≡ drop (prefix_len is_white more) more → length next_rest < length rest
+pub step_shorter : (t : Token) (rest more next_rest : List ℕ) → IsFirst t rest more
+    → next_rest ≡ drop (prefix_len is_white more) more → length next_rest < length rest
 step_shorter t rest more next_rest first e =
     let n : length rest ≡ length first.prefix + length more = ap length first.whole ∙ length-append first.prefix more in
-    let m : length next_rest ≡ length more - prefix_len is_white more = ap length e ∙ length-drop (prefix_len is_white more) more in
+    let m : length next_rest ≡ length more - prefix_len is_white more = ap length e
+    ∙ length-drop (prefix_len is_white more) more in
     let f = front_some t first.prefix more first.spelled in
     omega arith
