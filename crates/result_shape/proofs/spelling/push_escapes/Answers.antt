@@ -24,6 +24,8 @@ loop-i-preserved c =
       | else-is_escaped w ↦ rw (w.text-is, w.start-is) record {
         behind = omega arith;
         cut = c.loop-i.invariant.cut;
-        so_far = waits c.args.words.now c.loop-i.i c.loop-i.start (string_bytes c.loop-i.text) (string_bytes c.args.text.now) c.loop-i.invariant.behind there (sym test ∙ w.if-is_escaped.false) c.loop-i.invariant.so_far;
+        so_far =
+            waits c.args.words.now c.loop-i.i c.loop-i.start (string_bytes c.loop-i.text) (string_bytes c.args.text.now)
+            c.loop-i.invariant.behind there (sym test ∙ w.if-is_escaped.false) c.loop-i.invariant.so_far;
       }
     ]
