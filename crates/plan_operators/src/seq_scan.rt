@@ -1,7 +1,8 @@
 //! The sequential scan: each row of a place is tested against the predicates on it.
 //!
-//! The operands are looked up once, before the first row. The way in is `scan`.
-ghost use Rattle.std.specs.Prelude.{◌≡◌, ◌∷◌, [], IfOk, length, map, filter, slice_index_or};
+//! The operands are looked up once, before the first row; a column of whole numbers is read from its packed list. The way
+//! in is `scan`.
+ghost use Rattle.std.specs.Prelude.{◌≡◌, ◌∷◌, [], IfOk, length, map, filter};
 ghost use Rattle.row_values.specs.RowNumbers.{row_numbers};
 ghost use Rattle.statement_meaning.specs.Combinations.{kept_combinations};
 ghost use Rattle.row_tests.specs.Ready.{all_hold};
@@ -19,7 +20,7 @@ fn passing_rows(
     args: &[Value],
     ready: &[Ready],
 ) -> Result<Vec<u32>, OutOfMemory>
-    ensures { IfOk result (λ rows. rows.items ≡ filter (λ row. all_hold args.now ready.now (slice_index_or table.now.rows row [])) (row_numbers (length table.now.rows))) }
+    ensures { IfOk result (λ rows. rows.items ≡ filter (all_hold args.now table.now ready.now) (row_numbers (length table.now.rows))) }
 {
     let mut rows = Vec::new(alloc);
     for row in 0..table.len() as u32 {
@@ -38,9 +39,10 @@ pub fn scan(
     args: &[Value],
 ) -> Result<Vec<u32>, OutOfMemory>
     requires { length q.now.places ≡ 1 }
-    ensures { IfOk result (λ rows. map (λ row. row ∷ []) rows.items ≡ kept_combinations q.now (table.now.rows ∷ []) args.now) }
+    ensures { IfOk result (λ rows. map (λ row. row ∷ []) rows.items
+        ≡ kept_combinations q.now (table.now.rows ∷ []) args.now) }
 {
-    let ready = ready_preds(alloc, q.preds(), args, 0)?;
+    let ready = ready_preds(alloc, q.preds(), table, args, 0)?;
     let rows = passing_rows(alloc, table, args, ready.as_slice())?;
     Ok(rows)
 }

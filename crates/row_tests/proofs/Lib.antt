@@ -1,2 +1,3 @@
 pub mod NoCell
-pub mod Tests
+pub mod PackedTests
+pub mod ReadyTests

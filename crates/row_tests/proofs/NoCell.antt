@@ -1,6 +1,6 @@
 -- Where a table has no cell.
 use Rattle.std.proofs.Common.{ℕ, ◌≡◌, ◌<◌, ◌≤◌, suc, zero, List, [], ◌∷◌, length, get_or, map, ap, sym, ◌∙◌, arith, refl, ◌⊎◌, inl, inr}
-use Rattle.std.specs.Prelude.{slice_get, false, None}
+use Rattle.std.specs.Prelude.{slice_get, false, None, Option, Some}
 use Rattle.std.proofs.lemmas.Bool.{cases_lt}
 use Rattle.std.proofs.lemmas.List.{get_or_past, length-map}
 use Rattle.row_values.specs.Values.{kind_of}
@@ -10,9 +10,6 @@ use Rattle.row_values.specs.declared.statement.Operand.{Operand}
 use Rattle.row_values.specs.declared.statement.Test.{Test}
 use Rattle.row_values.specs.declared.statement.Test.TheVariants.{Lt, Le, Gt, Ge, Eq, Between, OneOf}
 use Rattle.statement_meaning.specs.Conditions.{equals_one, meets}
-use Rattle.row_tests.specs.declared.ready.ReadyTest.{ReadyTest}
-use Rattle.row_tests.specs.declared.ready.ReadyTest.TheVariants.{Number, Any}
-use Rattle.row_tests.specs.Ready.{ready_meets}
 use Rattle.csv_tables.specs.Tables.{IsTable, TableValue, column_kinds}
 
 slice_get_past : (row : List Value) (column : ℕ) → length row ≤ column → None ≡ slice_get row column
@@ -20,17 +17,22 @@ slice_get_past [] column h = refl
 slice_get_past (cell ∷ row) zero h = absurd (omega (arith, h))
 slice_get_past (cell ∷ row) (suc column) h = slice_get_past row column (omega (arith, h))
 
-pub no_row : (rows : List (List Value)) (row column : ℕ) → length rows ≤ row → None ≡ slice_get (get_or rows row []) column
+pub no_row : (rows : List (List Value)) (row column : ℕ) → length rows ≤ row
+    → None ≡ slice_get (get_or rows row []) column
 no_row rows row column h = ap (λ (cells : List Value). slice_get cells column) (sym (get_or_past rows row [] h))
 
-same_width : (row : List Value) (schema : List Column) → map kind_of row ≡ column_kinds schema → length row ≡ length schema
+same_width : (row : List Value) (schema : List Column) → map kind_of row ≡ column_kinds schema
+    → length row ≡ length schema
 same_width row schema h = sym (length-map row kind_of) ∙ (ap length h ∙ length-map schema (λ column. column.kind))
 
-pub no_column : (table : TableValue) (row column : ℕ) → IsTable table → length table.schema ≤ column → None ≡ slice_get (get_or table.rows row []) column
+pub no_column : (table : TableValue) (row column : ℕ) → IsTable table → length table.schema ≤ column
+    → None ≡ slice_get (get_or table.rows row []) column
 no_column table row column t h = by_row (cases_lt row (length table.rows))
   where
     by_row : (row < length table.rows) ⊎ (length table.rows ≤ row) → None ≡ slice_get (get_or table.rows row []) column
-    by_row (inl there) = slice_get_past (get_or table.rows row []) column (omega (arith, h, same_width (get_or table.rows row []) table.schema (t.fits row [] there)))
+    by_row (inl there) =
+        slice_get_past (get_or table.rows row []) column
+        (omega (arith, h, same_width (get_or table.rows row []) table.schema (t.fits row [] there)))
     by_row (inr past) = no_row table.rows row column past
 
 -- a cell that isn't there meets no test
@@ -48,6 +50,6 @@ meets_none args (Eq a) = refl
 meets_none args (Between a b) = refl
 meets_none args (OneOf operands) = equals_none args operands
 
-pub ready_none : (args : List Value) (test : ReadyTest) → false ≡ ready_meets args test None
-ready_none args (Number test) = refl
-ready_none args (Any test) = meets_none args test.now
+pub no_cell_meets : (args : List Value) (test : Test) (cell : Option Value) → None ≡ cell → false ≡ meets args test cell
+no_cell_meets args test None e = meets_none args test
+no_cell_meets args test (Some value) e = cc

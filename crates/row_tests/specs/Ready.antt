@@ -1,16 +1,17 @@
 -- What a ready predicate asks of a row.
-use Rattle.std.specs.Prelude.{ℤ, List, [], ◌∷◌, slice_get, Bool, true, false, ◌&&◌, Option, Some, None}
+use Rattle.std.specs.Prelude.{ℕ, ℤ, List, [], ◌∷◌, slice_get, slice_index_or, Bool, true, false, ◌&&◌, Option, Some, None}
+use Rattle.std.specs.Option.{option_map_or}
 use Rattle.std.specs.Ordering.{int_cmp, is_lt, is_le, is_gt, is_ge, is_eq}
 use Rattle.row_values.specs.declared.values.Value.{Value}
 use Rattle.row_values.specs.declared.values.Value.TheVariants.{Int, Text}
 use Rattle.row_values.specs.declared.statement.Test.{Test}
 use Rattle.row_values.specs.declared.statement.Test.TheVariants as test
+use Rattle.csv_tables.specs.Tables.{TableValue}
 use Rattle.statement_meaning.specs.Conditions.{meets, operand_value}
-use Rattle.row_tests.specs.declared.tests_of_values.NumberTest.{NumberTest}
-use Rattle.row_tests.specs.declared.tests_of_values.NumberTest.TheVariants.{Lt, Le, Gt, Ge, Eq, Between}
-use Rattle.row_tests.specs.declared.ready.ReadyTest.{ReadyTest}
-use Rattle.row_tests.specs.declared.ready.ReadyTest.TheVariants.{Number, Any}
-use Rattle.row_tests.specs.declared.ready.Ready.{Ready}
+use Rattle.row_tests.specs.declared.value_tests.NumberTest.{NumberTest}
+use Rattle.row_tests.specs.declared.value_tests.NumberTest.TheVariants.{Lt, Le, Gt, Ge, Eq, Between}
+use Rattle.row_tests.specs.declared.predicate_tests.Ready.{Ready}
+use Rattle.row_tests.specs.declared.predicate_tests.Ready.TheVariants.{Numbers, Cells}
 
 -- whether a whole number meets a test against whole numbers
 abbrev pub number_holds : NumberTest → ℤ → Bool
@@ -43,14 +44,12 @@ is_number_in test None = false
 is_number_in test (Some (Int number)) = number_holds test number
 is_number_in test (Some (Text text)) = false
 
-abbrev pub ready_meets : List Value → ReadyTest → Option Value → Bool
-ready_meets args (Number test) cell = is_number_in test cell
-ready_meets args (Any test) cell = meets args test.now cell
+-- whether a row, named by its number, meets a ready predicate of its table, and whether it meets all of them
+abbrev pub ready_holds : List Value → TableValue → Ready → ℕ → Bool
+ready_holds args table (Numbers numbers test) row = option_map_or (number_holds test) (slice_get numbers.now row) false
+ready_holds args table (Cells column test) row =
+    meets args test.now (slice_get (slice_index_or table.rows row []) column)
 
--- whether a row meets a ready predicate, and whether it meets all of them
-abbrev pub ready_holds : List Value → Ready → List Value → Bool
-ready_holds args ready row = ready_meets args ready.test (slice_get row ready.column)
-
-abbrev pub all_hold : List Value → List Ready → List Value → Bool
-all_hold args [] row = true
-all_hold args (ready ∷ more) row = ready_holds args ready row && all_hold args more row
+abbrev pub all_hold : List Value → TableValue → List Ready → ℕ → Bool
+all_hold args table [] row = true
+all_hold args table (ready ∷ more) row = ready_holds args table ready row && all_hold args table more row

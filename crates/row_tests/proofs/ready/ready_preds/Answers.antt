@@ -1,9 +1,0 @@
-use Rattle.row_tests.proofs.Tests.{taken, skipped}
-use Rattle.row_tests.proofs.ready.ready_preds.Goals as goal
-use Rattle.row_tests.proofs.ready.ready_preds.Goals.{then-pred-place+in_ok-push, else-pred-place}
-
-pub loop-pred-preserved : goal.loop-pred-preserved
-loop-pred-preserved c = λ row. elim c.if-pred-place.branch [
-  | then-pred-place+in_ok-push w ↦ rw (w.ready-is, w.in_ok-push.ensures.items) (taken c.args.args.now c.args.preds.now c.loop-pred.pred-index c.args.place c.pred-item.result c.loop-pred.ready.items w.ready_pred.result row _ c.loop-pred-test.true c.pred-item.is w.if-pred-place.true (w.ready_pred.ensures row) (c.loop-pred.invariant row))
-  | else-pred-place w ↦ rw w.ready-is (skipped c.args.args.now c.args.preds.now c.loop-pred.pred-index c.args.place c.pred-item.result c.loop-pred.ready.items row _ c.loop-pred-test.true c.pred-item.is w.if-pred-place.false (c.loop-pred.invariant row))
-]

@@ -1,0 +1,104 @@
+//! Predicates with their operands looked up once, ready for many rows of a table.
+//!
+//! A test of whole numbers against whole numbers is kept as numbers beside the packed list of its column, so that no
+//! cell is matched; any other stands as it is in the statement.
+ghost use Rattle.std.specs.Prelude.{◌≡◌, ℕ, [], IfOk, IfSome, false, slice_get, slice_index_or};
+ghost use Rattle.std.specs.Option.{option_map_or};
+ghost use Rattle.csv_tables.specs.Tables.{AreNumbers};
+ghost use Rattle.statement_meaning.specs.Conditions.{holds, row_passes};
+ghost use Rattle.row_tests.specs.Ready.{ready_holds, all_hold, number_holds};
+
+use crate::cells::cell_in;
+use crate::value_tests::{NumberTest, meets_test, number_test};
+use csv_tables::Table;
+use row_values::{OutOfMemory, Pred, Test, Value};
+use std::alloc::Global;
+
+/// A predicate that is ready to be asked of the rows of a table: of the packed numbers of its column, or of the cells in
+/// the column of this number.
+#[derive(Clone, Copy, Debug)]
+pub enum Ready<'a> {
+    Numbers(&'a [i64], NumberTest),
+    Cells(usize, &'a Test),
+}
+
+/// The packed numbers of a column, counted from 0; none where the table has no such column of whole numbers.
+fn packed(table: &Table, column: usize) -> Option<&[i64]>
+    ensures { IfSome result (λ numbers. AreNumbers table.now column numbers.now) }
+{
+    if column >= table.schema().columns().len() {
+        return None;
+    }
+    table.numbers(column)
+}
+
+/// A predicate, ready for these arguments and the rows of this table.
+pub fn ready_pred<'a>(args: &[Value], table: &'a Table, pred: &'a Pred) -> Ready<'a>
+    ensures { (row : ℕ) → ready_holds args.now table.now result row ≡ holds args.now pred.now (slice_index_or table.now.rows row []) }
+{
+    let column = usize::from(pred.at.column);
+    match (packed(table, column), number_test(args, &pred.test)) {
+        (Some(numbers), Some(test)) => Ready::Numbers(numbers, test),
+        _ => Ready::Cells(column, &pred.test),
+    }
+}
+
+/// The predicates on this place, ready for these arguments and the rows of this table.
+pub fn ready_preds<'a>(
+    alloc: Global,
+    preds: &'a [Pred],
+    table: &'a Table,
+    args: &[Value],
+    place: u8,
+) -> Result<Vec<Ready<'a>>, OutOfMemory>
+    ensures { IfOk result (λ ready. (row : ℕ) → all_hold args.now table.now ready.items row
+        ≡ row_passes args.now preds.now place (slice_index_or table.now.rows row [])) }
+{
+    let mut ready = Vec::new(alloc);
+    for pred in preds {
+        if pred.at.place == place {
+            ready.push(ready_pred(args, table, pred))?;
+        }
+    }
+    Ok(ready)
+}
+
+/// Whether the number of a row is there and meets a test.
+#[inline]
+#[tactic(auto, using(crate::proofs::PackedTests::number_missing))]
+fn number_meets(numbers: &[i64], row: usize, test: NumberTest) -> bool
+    ensures { result ≡ option_map_or (number_holds test) (slice_get numbers.now row) false }
+{
+    if row >= numbers.len() {
+        return false;
+    }
+    test.holds(numbers[row])
+}
+
+/// Whether a row meets a ready predicate.
+#[inline]
+#[tactic(auto, using(crate::proofs::NoCell::no_cell_meets))]
+pub fn row_meets(table: &Table, row: usize, args: &[Value], ready: Ready) -> bool
+    ensures { result ≡ ready_holds args.now table.now ready.entry row }
+{
+    match ready {
+        Ready::Numbers(numbers, test) => number_meets(numbers, row, test),
+        Ready::Cells(column, test) => match cell_in(table, row, column) {
+            Some(cell) => meets_test(args, test, cell),
+            None => false,
+        },
+    }
+}
+
+/// Whether a row meets all ready predicates.
+#[inline]
+pub fn passes(table: &Table, row: usize, args: &[Value], ready: &[Ready]) -> bool
+    ensures { result ≡ all_hold args.now table.now ready.now row }
+{
+    for one in ready {
+        if !row_meets(table, row, args, *one) {
+            return false;
+        }
+    }
+    true
+}
