@@ -1,7 +1,9 @@
-//! Measures `Poly::eval`: a polynomial of 32 terms in eight selectivities, at as many vectors as the
+//! Measures `Poly::eval`: a polynomial of 32 terms in eight selectivities, at as many vectors as
+//! the
 //! first word says. `docs/PERFORMANCE.md` has the figures and the command.
 //!
-//! The polynomial is (1 + s0) (1 + s1) (1 + s2) (1 + s3) (1 + s4 s5 s6 s7), built by `shape`. Each vector
+//! The polynomial is (1 + s0) (1 + s1) (1 + s2) (1 + s3) (1 + s4 s5 s6 s7), built by `shape`. Each
+//! vector
 //! differs from the one before, and the sum of the values is printed, so that no value is left out.
 #![tactic(auto)]
 

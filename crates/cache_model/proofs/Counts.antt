@@ -5,5 +5,7 @@ use Rattle.row_values.specs.Statements.{Statement}
 use Rattle.plan_trees.specs.Statistics.{Statistics, IsSoundVector}
 use Rattle.cost_model.proofs.SoundNumbers.{vector_some}
 
-pub counts_some : (q : Statement) (s : Statistics) (vector : List ℕ) → IsSoundVector q s vector → All (λ count. 1 ≤ count) vector
-counts_some q s vector sound = λ k d less. subst (λ n. 1 ≤ n) (get_or_default vector k 0 d less) (vector_some q s vector sound k less)
+pub counts_some : (q : Statement) (s : Statistics) (vector : List ℕ) → IsSoundVector q s vector
+    → All (λ count. 1 ≤ count) vector
+counts_some q s vector sound =
+    λ k d less. subst (λ n. 1 ≤ n) (get_or_default vector k 0 d less) (vector_some q s vector sound k less)

@@ -1,5 +1,6 @@
 -- The numbers of a faithful cache and of sound vectors are small enough to be computed with.
-use Rattle.std.proofs.Common.{ℕ, zero, suc, ◌≡◌, ◌≤◌, ◌<◌, ◌^◌, max, true, List, [], ◌∷◌, length, map, slice_index, ap, sym, ◌∙◌, refl, subst, arith}
+use Rattle.std.proofs.Common.{ℕ, zero, suc, ◌≡◌, ◌≤◌, ◌<◌, ◌^◌, max, true, List, [], ◌∷◌, length, map, slice_index, ap}
+use Rattle.std.proofs.Common.{sym, ◌∙◌, refl, subst, arith}
 use Rattle.std.specs.List.{AllByRecursion}
 use Rattle.row_values.specs.Statements.{Statement, IsSoundQuery}
 use Rattle.plan_trees.specs.PlaceSets.{all_below, has}
@@ -19,7 +20,9 @@ use Rattle.cache_model.proofs.Choosing.{valid_there}
 
 -- Costs.
 
-pub anchor_fits : CostRangeLaw → (cache : CacheState) (q : Statement) (s : Statistics) (executions budget : ℕ) → IsSoundQuery q → IsSoundStats q s → IsFaithfulCache cache q s executions budget → (anchor : Anchor) → IsFaithfulAnchor q s cache.plans executions anchor → IsSoundAnchor anchor
+pub anchor_fits : CostRangeLaw → (cache : CacheState) (q : Statement) (s : Statistics) (executions budget : ℕ)
+    → IsSoundQuery q → IsSoundStats q s → IsFaithfulCache cache q s executions budget → (anchor : Anchor)
+    → IsFaithfulAnchor q s cache.plans executions anchor → IsSoundAnchor anchor
 anchor_fits law cache q s executions budget sound stats h anchor k =
     let valid : IsValidTop q s.indexed k.top = valid_there cache q s executions budget anchor.plan k.top h k.there in
     let fit = law q s anchor.at sound stats k.vector in
@@ -42,7 +45,8 @@ length-greater [] ys e = refl
 length-greater (x ∷ xs) [] e = absurd (omega arith)
 length-greater (x ∷ xs) (y ∷ ys) e = ap (λ (n : ℕ). suc n) (length-greater xs ys (omega arith))
 
-greater_at : (xs ys : List ℕ) (i : ℕ) → length xs ≡ length ys → slice_index (greater xs ys) i ≡ max (slice_index xs i) (slice_index ys i)
+greater_at : (xs ys : List ℕ) (i : ℕ) → length xs ≡ length ys → slice_index (greater xs ys) i
+    ≡ max (slice_index xs i) (slice_index ys i)
 unfolding greater
 greater_at [] [] i e = refl
 greater_at [] (y ∷ ys) i e = absurd (omega arith)
@@ -57,18 +61,22 @@ both_within limit a b h k =
     let r : b ≤ limit = k.high in
     record { low = omega arith; high = omega arith }
 
-sound_greater : (q : Statement) (s : Statistics) (a b : List ℕ) → IsSoundVector q s a → IsSoundVector q s b → IsSoundVector q s (greater a b)
+sound_greater : (q : Statement) (s : Statistics) (a b : List ℕ) → IsSoundVector q s a → IsSoundVector q s b
+    → IsSoundVector q s (greater a b)
 sound_greater q s a b h k =
     let e = h.one_each ∙ sym k.one_each in
     record {
       one_each = length-greater a b e ∙ h.one_each;
       within = λ i place there.
-          subst (λ n. IsWithin (slice_index s.rows place) n) (sym (greater_at a b i e)) (both_within (slice_index s.rows place) (slice_index a i) (slice_index b i) (h.within i place there) (k.within i place there));
+          subst (λ n. IsWithin (slice_index s.rows place) n) (sym (greater_at a b i e))
+          (both_within (slice_index s.rows place) (slice_index a i) (slice_index b i) (h.within i place there)
+          (k.within i place there));
     }
 
 -- Its product is that of all places.
 
-all_marked : (set : ℕ) (on xs ys : List ℕ) → AllByRecursion (λ t. has set t ≡ true) on → length xs ≡ length on → length xs ≡ length ys → greater_product xs ys ≡ marked_product (map (has set) on) (greater xs ys)
+all_marked : (set : ℕ) (on xs ys : List ℕ) → AllByRecursion (λ t. has set t ≡ true) on → length xs ≡ length on
+    → length xs ≡ length ys → greater_product xs ys ≡ marked_product (map (has set) on) (greater xs ys)
 unfolding greater
 all_marked set [] [] ys h e f = refl
 all_marked set [] (x ∷ xs) ys h e f = absurd (omega arith)
@@ -76,10 +84,12 @@ all_marked set (t ∷ on) [] ys h e f = absurd (omega arith)
 all_marked set (t ∷ on) (x ∷ xs) [] h e f = absurd (omega arith)
 all_marked set (t ∷ on) (x ∷ xs) (y ∷ ys) h e f = rw (h.0, all_marked set on xs ys h.1 (omega arith) (omega arith)) refl
 
-each_there : (rows on vector : List ℕ) (count : ℕ) → length rows ≡ count → IsVector rows on vector → AllByRecursion (λ t. has (all_below count) t ≡ true) on
+each_there : (rows on vector : List ℕ) (count : ℕ) → length rows ≡ count → IsVector rows on vector
+    → AllByRecursion (λ t. has (all_below count) t ≡ true) on
 each_there rows [] vector count e h = tt
 each_there rows (t ∷ on) [] count e h = absurd h
-each_there rows (t ∷ on) (x ∷ vector) count e h = (has_below count t (subst (λ n. t < n) e h.0), each_there rows on vector count e h.3)
+each_there rows (t ∷ on) (x ∷ vector) count e h =
+    (has_below count t (subst (λ n. t < n) e h.0), each_there rows on vector count e h.3)
 
 same_length : (a b c : ℕ) → a ≡ c → b ≡ c → a ≡ b
 same_length a b c e f = e ∙ sym f
@@ -90,12 +100,14 @@ length_on rows [] (x ∷ vector) h = absurd h
 length_on rows (t ∷ on) [] h = absurd h
 length_on rows (t ∷ on) (x ∷ vector) h = ap (λ (n : ℕ). suc n) (length_on rows on vector h.3)
 
-pub vectors_fit : (q : Statement) (s : Statistics) (instance anchor : List ℕ) → IsSoundQuery q → IsSoundStats q s → IsSoundVector q s instance → IsSoundVector q s anchor → greater_product instance anchor ≤ 2 ^ 63
+pub vectors_fit : (q : Statement) (s : Statistics) (instance anchor : List ℕ) → IsSoundQuery q → IsSoundStats q s
+    → IsSoundVector q s instance → IsSoundVector q s anchor → greater_product instance anchor ≤ 2 ^ 63
 vectors_fit q s instance anchor sound stats h k =
     let on = selectivity_places q.preds in
     let all = all_below (length q.places) in
     let sized = are_sized q s (greater instance anchor) sound stats (sound_greater q s instance anchor h k) in
     let here = are_sized q s instance sound stats h in
     subst (λ n. n ≤ 2 ^ 63)
-    (sym (all_marked all on instance anchor (each_there s.rows on instance (length q.places) stats.row_counts here.numbers) (length_on s.rows on instance here.numbers) (h.one_each ∙ sym k.one_each)))
+    (sym (all_marked all on instance anchor (each_there s.rows on instance (length q.places) stats.row_counts
+    here.numbers) (length_on s.rows on instance here.numbers) (h.one_each ∙ sym k.one_each)))
     (selected_few q s (greater instance anchor) all sized)

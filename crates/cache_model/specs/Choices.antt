@@ -1,5 +1,6 @@
 -- The choice for an instance: an anchor's plan that one of the two checks lets through, or a plan of its own.
-use Rattle.std.specs.Prelude.{ℕ, ◌+◌, ◌*◌, ◌^◌, nat_lt, nat_le, min, max, Bool, false, ◌&&◌, List, [], ◌∷◌, take, position, Option, Some, None, if◌then◌else◌}
+use Rattle.std.specs.Prelude.{ℕ, ◌+◌, ◌*◌, ◌^◌, nat_lt, nat_le, min, max, Bool, false, ◌&&◌, List, [], ◌∷◌, take}
+use Rattle.std.specs.Prelude.{position, Option, Some, None, if◌then◌else◌}
 use Rattle.std.specs.Option.{option_map_or}
 use Rattle.fraction_math.specs.Fraction.{Fraction}
 use Rattle.cost_polynomials.specs.Growth.{grown_to, grown_from, shrunk_to, shrunk_from}

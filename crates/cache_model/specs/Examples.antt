@@ -31,7 +31,8 @@ below column parameter = record { at = column_of 0 column; test = test.Lt (opera
 
 abbrev over_table : List Column → List Pred → Statement
 over_table columns preds =
-    statement_with (record { table = codes "t"; alias = codes "t"; schema = columns } ∷ []) preds [] (item.Column (column_of 0 0) ∷ []) [] []
+    statement_with (record { table = codes "t"; alias = codes "t"; schema = columns } ∷ []) preds []
+    (item.Column (column_of 0 0) ∷ []) [] []
 
 abbrev optimum_of : ℕ → List ℕ → TopTree → ℕ → Optimum
 optimum_of execution at top least = record { execution = execution; at = at; top = top; least = least * COST_SCALE }
@@ -49,7 +50,16 @@ abbrev narrow : Statement
 narrow = over_table (column_named (codes "v") ∷ []) (below 0 0 ∷ [])
 
 abbrev thousand : Statistics
-thousand = record { rows = 1000 ∷ []; fixed = 1000 ∷ []; matching = 1 ∷ []; distinct = []; fans = (1 ∷ []) ∷ []; indexed = 1 ∷ []; weights = usual_weights }
+thousand = record {
+  rows = 1000 ∷ [];
+  fixed = 1000 ∷ [];
+  matching = 1 ∷ [];
+  distinct = [];
+  fans =
+      (1 ∷ []) ∷ [];
+  indexed = 1 ∷ [];
+  weights = usual_weights;
+}
 
 abbrev range : TopTree
 range = Rows (Base (Range 0 0 0))
@@ -94,7 +104,8 @@ shrinking_counts : choice_at at_100.cache 4 ≡ ByOptimum 1
 unfolding digits digits_within
 shrinking_counts = refl
 
--- Reuse by cost: optimised at 1, then at 4. The selectivity check fails, 12 * 4 against 2 * 12; the cost check passes, 18
+-- Reuse by cost: optimised at 1, then at 4. The selectivity check fails, 12 * 4 against 2 * 12; the cost check passes,
+-- 18
 -- against 2 * 12.
 
 abbrev at_1 : Keeping
@@ -108,7 +119,8 @@ reuse_by_cost : choice_at at_1.cache 4 ≡ ByCost 0 1
 unfolding digits digits_within
 reuse_by_cost = refl
 
--- Redundant plan: at 250 both checks fail and the range is the plan again; at 600 all rows are read, but the range costs
+-- Redundant plan: at 250 both checks fail and the range is the plan again; at 600 all rows are read, but the range
+-- costs
 -- 1210 there, within 7 / 5 of 1000.
 
 abbrev at_250 : Keeping
@@ -134,7 +146,8 @@ unfolding digits digits_within
 redundant_plan = refl
 
 -- Reuse within the bound: at 700 by the third anchor, since 1210 * 700 is at most 2 * 1000 * 600. The anchor's own cost
--- counts: at 1000 it fails, 1210 * 1000 against 1,200,000, and so does each cost check, the nearest by 2010 against 2000.
+-- counts: at 1000 it fails, 1210 * 1000 against 1,200,000, and so does each cost check, the nearest by 2010 against
+-- 2000.
 
 within_bound : choice_at at_600.cache 700 ≡ BySelectivity 2
 unfolding digits digits_within
@@ -148,13 +161,15 @@ kept_at_1000 : (keeping at_600.cache 256 (optimum_of 4 (1000 ∷ []) all_rows 10
 unfolding digits digits_within
 kept_at_1000 = refl
 
--- the nearest is tried first: at 300 the anchor at 250, which stands second and lets the range through by 610 against 510
+-- the nearest is tried first: at 300 the anchor at 250, which stands second and lets the range through by 610 against
+-- 510
 nearest_first : choice_of at_250.cache narrow thousand (300 ∷ []) (record { num = 599; den = 500 }) 1 ≡ ByCost 1 1
 unfolding digits digits_within
 nearest_first = refl
 
 -- Budget: with room for one plan, the range goes with its anchor for reading all rows.
-one_plan_alone : (keeping at_100.cache 1 (optimum_of 2 (1000 ∷ []) all_rows 1000)).evicted ≡ Some (record { plan = 1; anchors = 1 })
+one_plan_alone : (keeping at_100.cache 1 (optimum_of 2 (1000 ∷ []) all_rows 1000)).evicted
+    ≡ Some (record { plan = 1; anchors = 1 })
 unfolding digits digits_within
 one_plan_alone = refl
 
@@ -163,7 +178,15 @@ one_plan_alone = refl
 with_anchors : ℕ → CacheState
 with_anchors count = record {
   plans = at_100.cache.plans;
-  anchors = replicate count (record { execution = 1; at = 100 ∷ []; plan = 1; plan_cost = 210 * COST_SCALE; least = 210 * COST_SCALE; uses = 1 });
+  anchors = replicate count (record {
+    execution = 1;
+    at = 100 ∷ [];
+    plan = 1;
+    plan_cost = 210 * COST_SCALE;
+    least =
+        210 * COST_SCALE;
+    uses = 1;
+  });
   next_plan = 2;
 }
 
@@ -178,20 +201,40 @@ room_for_one = refl
 -- Overflowing check: with the greatest ratio of parts below 2 ^ 63 the right side of both checks passes 2 ^ 128.
 
 abbrev forty_thousand : Statistics
-forty_thousand = record { rows = 40000 ∷ []; fixed = 40000 ∷ []; matching = 1 ∷ []; distinct = []; fans = (1 ∷ []) ∷ []; indexed = 0 ∷ []; weights = usual_weights }
+forty_thousand = record {
+  rows = 40000 ∷ [];
+  fixed = 40000 ∷ [];
+  matching = 1 ∷ [];
+  distinct = [];
+  fans =
+      (1 ∷ []) ∷ [];
+  indexed = 0 ∷ [];
+  weights = usual_weights;
+}
 
-overflow_fails : choice_of (kept_after empty_cache narrow forty_thousand (optimum_of 1 (2000 ∷ []) all_rows 40000) seven_fifths 256).cache narrow forty_thousand (1000 ∷ []) (record { num = 2 ^ 63 - 1; den = 1 }) 16 ≡ ByOptimum 1
+overflow_fails : choice_of (kept_after empty_cache narrow forty_thousand (optimum_of 1 (2000 ∷ []) all_rows 40000)
+    seven_fifths 256).cache narrow forty_thousand (1000 ∷ []) (record { num = 2 ^ 63 - 1; den = 1 }) 16 ≡ ByOptimum 1
 unfolding digits digits_within
 overflow_fails = refl
 
--- Least used: SELECT v FROM t WHERE v < ? AND w < ?, with room for two plans. The uses of the two ranges tie, and the one
+-- Least used: SELECT v FROM t WHERE v < ? AND w < ?, with room for two plans. The uses of the two ranges tie, and the
+-- one
 -- of less number goes.
 
 abbrev wide_and_narrow : Statement
 wide_and_narrow = over_table (column_named (codes "v") ∷ column_named (codes "w") ∷ []) (below 0 0 ∷ below 1 1 ∷ [])
 
 abbrev thousand_pairs : Statistics
-thousand_pairs = record { rows = 1000 ∷ []; fixed = 1000 ∷ []; matching = 1 ∷ 1 ∷ []; distinct = []; fans = (1 ∷ 1 ∷ []) ∷ []; indexed = 3 ∷ []; weights = usual_weights }
+thousand_pairs = record {
+  rows = 1000 ∷ [];
+  fixed = 1000 ∷ [];
+  matching = 1 ∷ 1 ∷ [];
+  distinct = [];
+  fans =
+      (1 ∷ 1 ∷ []) ∷ [];
+  indexed = 3 ∷ [];
+  weights = usual_weights;
+}
 
 abbrev range_on_w : TopTree
 range_on_w = Rows (Base (Range 0 1 1))
@@ -201,13 +244,16 @@ keeping_pair cache optimum = kept_after cache wide_and_narrow thousand_pairs opt
 
 abbrev two_ranges : CacheState
 two_ranges =
-    (keeping_pair (keeping_pair empty_cache (optimum_of 1 (100 ∷ 1000 ∷ []) range 210)).cache (optimum_of 2 (1000 ∷ 100 ∷ []) range_on_w 210)).cache
+    (keeping_pair (keeping_pair empty_cache (optimum_of 1 (100 ∷ 1000 ∷ []) range 210)).cache
+    (optimum_of 2 (1000 ∷ 100 ∷ []) range_on_w 210)).cache
 
-least_used_goes : (keeping_pair two_ranges (optimum_of 3 (1000 ∷ 1000 ∷ []) all_rows 1000)).evicted ≡ Some (record { plan = 1; anchors = 1 })
+least_used_goes : (keeping_pair two_ranges (optimum_of 3 (1000 ∷ 1000 ∷ []) all_rows 1000)).evicted
+    ≡ Some (record { plan = 1; anchors = 1 })
 unfolding digits digits_within
 least_used_goes = refl
 
 -- a use more saves it, and the other goes
-most_used_stays : (keeping_pair (reused two_ranges 0) (optimum_of 4 (1000 ∷ 1000 ∷ []) all_rows 1000)).evicted ≡ Some (record { plan = 2; anchors = 1 })
+most_used_stays : (keeping_pair (reused two_ranges 0) (optimum_of 4 (1000 ∷ 1000 ∷ []) all_rows 1000)).evicted
+    ≡ Some (record { plan = 2; anchors = 1 })
 unfolding digits digits_within
 most_used_stays = refl

@@ -1,5 +1,6 @@
 -- What is kept of an instance that was optimised: an anchor, and its plan unless an older one does as well.
-use Rattle.std.specs.Prelude.{ℕ, ◌*◌, nat_lt, Bool, List, [], ◌∷◌, length, filter, find, Option, Some, None, if◌then◌else◌}
+use Rattle.std.specs.Prelude.{ℕ, ◌*◌, nat_lt, Bool, List, [], ◌∷◌, length, filter, find, Option, Some, None}
+use Rattle.std.specs.Prelude.{if◌then◌else◌}
 use Rattle.std.specs.List.{best_of}
 use Rattle.std.specs.Option.{option_map, option_map_or, option_or}
 use Rattle.fraction_math.specs.Fraction.{Fraction}
@@ -7,7 +8,8 @@ use Rattle.row_values.specs.Statements.{Statement}
 use Rattle.plan_trees.specs.Statistics.{Statistics}
 use Rattle.plan_trees.specs.Trees.{TopTree, same_top}
 use Rattle.cost_model.specs.Costs.{top_cost}
-use Rattle.cache_model.specs.Caches.{Anchor, CachedPlan, CacheState, anchors_of, uses_of, with_anchor, with_plan, without}
+use Rattle.cache_model.specs.Caches.{Anchor, CachedPlan, CacheState, anchors_of, uses_of, with_anchor, with_plan}
+use Rattle.cache_model.specs.Caches.{without}
 use Rattle.cache_model.specs.Choices.{is_at_most}
 use Rattle.cache_model.specs.declared.limits.TheConstants.{ANCHOR_LIMIT}
 

@@ -1,5 +1,6 @@
 -- What the laws of plan caches say, for all caches, statements and statistics.
-use Rattle.std.specs.Prelude.{ℕ, ◌≡◌, ◌<◌, ◌≤◌, ◌+◌, ◌*◌, ◌^◌, ◌⊎◌, min, max, false, IsTrue, ◌↔◌, List, length, take, All, AllPairs, slice_index, slice_get, Some}
+use Rattle.std.specs.Prelude.{ℕ, ◌≡◌, ◌<◌, ◌≤◌, ◌+◌, ◌*◌, ◌^◌, ◌⊎◌, min, max, false, IsTrue, ◌↔◌, List, length, take}
+use Rattle.std.specs.Prelude.{All, AllPairs, slice_index, slice_get, Some}
 use Rattle.fraction_math.specs.Fraction.{Fraction}
 use Rattle.row_values.specs.Statements.{Statement, IsSoundQuery}
 use Rattle.plan_trees.specs.PlanSpace.{IsValidTop}
@@ -9,8 +10,11 @@ use Rattle.cost_model.specs.Checks.{PassesSelectivityCheck, PassesCostCheck}
 use Rattle.cost_model.specs.Costs.{top_cost}
 use Rattle.cost_model.specs.Laws.{IsCost}
 use Rattle.cost_model.specs.LeastCost.{IsLeastCost}
-use Rattle.cache_model.specs.Caches.{Anchor, CachedPlan, CacheState, cleared, empty_cache, reused, top_numbered, without}
-use Rattle.cache_model.specs.Choices.{ByCost, ByOptimum, BySelectivity, Candidate, Choice, by_nearness, candidates_of, choice_of, greater_product, is_nearer, passes_cost_check, passes_selectivity_check, placed_from, position_chosen}
+use Rattle.cache_model.specs.Caches.{Anchor, CachedPlan, CacheState, cleared, empty_cache, reused, top_numbered}
+use Rattle.cache_model.specs.Caches.{without}
+use Rattle.cache_model.specs.Choices.{ByCost, ByOptimum, BySelectivity, Candidate, Choice, by_nearness, candidates_of}
+use Rattle.cache_model.specs.Choices.{choice_of, greater_product, is_nearer, passes_cost_check}
+use Rattle.cache_model.specs.Choices.{passes_selectivity_check, placed_from, position_chosen}
 use Rattle.cache_model.specs.Faithful.{IsFaithfulCache, IsWide}
 use Rattle.cache_model.specs.Keeping.{Optimum, kept_after}
 
@@ -128,7 +132,8 @@ pub record PassesByCost (q : Statement) (s : Statistics) (plans : List CachedPla
   pub plan : top_numbered plans anchor.plan ≡ Some top
   pub check : PassesCostCheck lambda.num lambda.den (top_cost q s instance top) anchor.least anchor.at instance
 
--- no anchor passes the selectivity check; of the candidates the one that was tried last is the first to pass the cost check
+-- no anchor passes the selectivity check; of the candidates the one that was tried last is the first to pass the cost
+-- check
 pub record IsChosenByCost (cache : CacheState) (q : Statement) (s : Statistics) (instance : List ℕ) (lambda : Fraction)
     (recosts position tried : ℕ) : Type 0 where
   pub not_by_selectivity : All (λ anchor. ¬ PassesBySelectivity lambda instance anchor) cache.anchors
@@ -164,7 +169,8 @@ ChoiceLaw =
 -- the first is nearer, or stands earlier in the list where the second isn't nearer
 abbrev pub ComesBefore : List ℕ → Candidate → Candidate → Type 0
 ComesBefore instance a b =
-    IsTrue (is_nearer instance a.anchor b.anchor) ⊎ ((is_nearer instance b.anchor a.anchor ≡ false) × (a.position < b.position))
+    IsTrue (is_nearer instance a.anchor b.anchor) ⊎ ((is_nearer instance b.anchor a.anchor ≡ false)
+    × (a.position < b.position))
 
 -- all anchors of the list, each once, in one order
 pub record AreByNearness (instance : List ℕ) (anchors : List Anchor) (candidates : List Candidate) : Type 0 where

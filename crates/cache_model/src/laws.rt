@@ -1,5 +1,8 @@
 //! Laws of plan caches. Their promise is the clause; there is nothing to run.
-ghost use Rattle.cache_model.specs.Laws.{AnchorCostsLaw, CandidatesLaw, ChoiceBoundLaw, ChoiceLaw, ClearedIsFaithful, CostTestLaw, EmptyIsFaithful, EvictLaw, FaithfulLater, KeepingLaw, NextPlanLaw, OneLeastCostLaw, ReuseLaw, SelectivityTestLaw, VectorsFitLaw, WindowLaw};
+ghost use Rattle.cache_model.specs.Laws.{AnchorCostsLaw, CandidatesLaw, ChoiceBoundLaw, ChoiceLaw, ClearedIsFaithful};
+ghost use Rattle.cache_model.specs.Laws.{CostTestLaw, EmptyIsFaithful, EvictLaw, FaithfulLater, KeepingLaw};
+ghost use Rattle.cache_model.specs.Laws.{NextPlanLaw, OneLeastCostLaw, ReuseLaw, SelectivityTestLaw, VectorsFitLaw};
+ghost use Rattle.cache_model.specs.Laws.{WindowLaw};
 
 /// The selectivity check as a test passes exactly where the check does.
 pub fn selectivity_test_tells()

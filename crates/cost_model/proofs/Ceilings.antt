@@ -1,5 +1,6 @@
 -- Quotients rounded up, and binary digits.
-use Rattle.std.proofs.Common.{ℕ, zero, suc, ◌≡◌, ◌≤◌, ◌<◌, ◌+◌, ◌*◌, ◌/◌, ◌==◌, if◌then◌else◌, ◌⊎◌, inl, inr, arith, mul-le-mul_left, mul-le-mul_right, add-mul}
+use Rattle.std.proofs.Common.{ℕ, zero, suc, ◌≡◌, ◌≤◌, ◌<◌, ◌+◌, ◌*◌, ◌/◌, ◌==◌, if◌then◌else◌, ◌⊎◌, inl, inr, arith}
+use Rattle.std.proofs.Common.{mul-le-mul_left, mul-le-mul_right, add-mul}
 use Rattle.std.specs.Int.{div_ceil}
 use Rattle.std.proofs.lemmas.Bool.{cases_lt}
 use Rattle.std.proofs.lemmas.Bool.Decides.{nat_tests}
@@ -10,7 +11,8 @@ use Rattle.cost_model.specs.Costs.{digits, digits_within}
 pub ceiling_times : (a b : ℕ) → 1 ≤ b → div_ceil a b * b ≤ a + b
 ceiling_times a b some = let h = (div_ceil_times a b some).1 in omega arith
 
-no_larger : (a b e small large : ℕ) → 1 ≤ b → 1 ≤ e → a ≤ small * b → large * (b * e) < a + b * e → (small < large) ⊎ (large ≤ small) → large ≤ small
+no_larger : (a b e small large : ℕ) → 1 ≤ b → 1 ≤ e → a ≤ small * b → large * (b * e) < a + b * e → (small < large)
+    ⊎ (large ≤ small) → large ≤ small
 no_larger a b e small large b1 e1 h k (inr le) = le
 no_larger a b e small large b1 e1 h k (inl lt) =
     let more : (small + 1) * (b * e) ≤ large * (b * e) = mul-le-mul_right (b * e) (omega arith) in
@@ -23,7 +25,8 @@ no_larger a b e small large b1 e1 h k (inl lt) =
 pub ceiling_more : (a b e : ℕ) → 1 ≤ b → 1 ≤ e → div_ceil a (b * e) ≤ div_ceil a b
 ceiling_more a b e b1 e1 =
     let wider : b * 1 ≤ b * e = mul-le-mul_left b e1 in
-    no_larger a b e (div_ceil a b) (div_ceil a (b * e)) b1 e1 (div_ceil_times a b b1).0 (div_ceil_times a (b * e) (omega arith)).1 (cases_lt _ _)
+    no_larger a b e (div_ceil a b) (div_ceil a (b * e)) b1 e1 (div_ceil_times a b b1).0
+    (div_ceil_times a (b * e) (omega arith)).1 (cases_lt _ _)
 
 digits_few_by : (n d k : ℕ) → d ≤ k → (if n == 0 then 0 else 1 + d) ≤ suc k
 digits_few_by n d k h = grind (arith, nat_tests)

@@ -1,5 +1,6 @@
 -- What plans cost, on the cost scale: an equation for each form of plan.
-use Rattle.std.specs.Prelude.{ℕ, zero, suc, ◌+◌, ◌*◌, ◌/◌, ◌==◌, false, if◌then◌else◌, List, take, slice_get, slice_index}
+use Rattle.std.specs.Prelude.{ℕ, zero, suc, ◌+◌, ◌*◌, ◌/◌, ◌==◌, false, if◌then◌else◌, List, take, slice_get}
+use Rattle.std.specs.Prelude.{slice_index}
 use Rattle.std.specs.Option.{option_map_or}
 use Rattle.row_values.specs.Statements.{Statement, is_parameterised, selectivity_count}
 use Rattle.plan_trees.specs.declared.plans.Access.{Access}
@@ -9,7 +10,8 @@ use Rattle.plan_trees.specs.declared.plans.StepKind.TheVariants.{Loop, Probe}
 use Rattle.plan_trees.specs.PlaceSets.{one}
 use Rattle.plan_trees.specs.PlanSpace.{column_in}
 use Rattle.plan_trees.specs.Statistics.{Statistics, fan_at}
-use Rattle.plan_trees.specs.Trees.{Tree, Base, Join, HashJoin, Sort, TopTree, Rows, SortedGroups, HashGroups, place_of, places_of}
+use Rattle.plan_trees.specs.Trees.{Tree, Base, Join, HashJoin, Sort, TopTree, Rows, SortedGroups, HashGroups, place_of}
+use Rattle.plan_trees.specs.Trees.{places_of}
 use Rattle.cost_model.specs.Cardinalities.{card_of, product_over}
 use Rattle.plan_trees.specs.declared.scale.TheConstants.{COST_SCALE}
 

@@ -1,6 +1,7 @@
 -- Worked by computation: a join of three places whose smallest pair is no good start, one of four places that is best
 -- taken from both ends, and a wanted order.
-use Rattle.std.specs.Prelude.{ℕ, zero, suc, ◌≡◌, ◌+◌, ◌*◌, ◌-◌, ◌/◌, ◌==◌, nat_lt, Bool, true, false, ◌&&◌, ◌||◌, if◌then◌else◌, List, [], ◌∷◌, ◌++◌, codes, map, slice_get, Option, Some, None, refl}
+use Rattle.std.specs.Prelude.{ℕ, zero, suc, ◌≡◌, ◌+◌, ◌*◌, ◌-◌, ◌/◌, ◌==◌, nat_lt, Bool, true, false, ◌&&◌, ◌||◌}
+use Rattle.std.specs.Prelude.{if◌then◌else◌, List, [], ◌∷◌, ◌++◌, codes, map, slice_get, Option, Some, None, refl}
 use Rattle.std.specs.Option.{option_map_or}
 use Rattle.std.specs.Fmt.{digits as decimal_digits}
 use Rattle.std.proofs.Common.{sym, true≢false, arith}
@@ -29,17 +30,27 @@ usual_weights : Weights
 usual_weights = record { row = 1; fetch = 2; probe = 1; hash = 2; sort = 1; out = 1 }
 
 unfoldable pub table_of : List ℕ → List (List ℕ) → Place
-table_of name columns = record { table = name; alias = name; schema = map (λ column. record { name = column; kind = kind.Int }) columns }
+table_of name columns = record {
+  table = name;
+  alias = name;
+  schema =
+      map (λ column. record { name = column; kind = kind.Int }) columns;
+}
 
 unfoldable pub edge_of : ℕ → ℕ → ℕ → ℕ → Edge
-edge_of left left_column right right_column = record { left = column_of left left_column; right = column_of right right_column }
+edge_of left left_column right right_column = record {
+  left = column_of left left_column;
+  right =
+      column_of right right_column;
+}
 
 -- Smallest pair first is not least: SELECT a.x FROM a, b, c WHERE a.x = b.x AND a.y = c.y AND b.z = c.z over
 -- tables of 8, 1024 and 1024 rows, where c.y has 512 values, and b.z and c.y have an index.
 
 three_places : Statement
 three_places =
-    statement_with (table_of (codes "a") (codes "x" ∷ codes "y" ∷ []) ∷ table_of (codes "b") (codes "x" ∷ codes "z" ∷ []) ∷ table_of (codes "c") (codes "y" ∷ codes "z" ∷ []) ∷ [])
+    statement_with (table_of (codes "a") (codes "x" ∷ codes "y" ∷ []) ∷ table_of (codes "b") (codes "x" ∷ codes "z"
+    ∷ []) ∷ table_of (codes "c") (codes "y" ∷ codes "z" ∷ []) ∷ [])
     [] (edge_of 0 0 1 0 ∷ edge_of 0 1 2 0 ∷ edge_of 1 1 2 1 ∷ []) (item.Column (column_of 0 0) ∷ []) [] []
 
 three_tables : Statistics
@@ -65,7 +76,8 @@ unfolding three_places three_tables usual_weights table_of edge_of card_of kappa
 cheapest_cost = refl
 
 -- begun with the smallest pair a plan costs nine times as much
-smallest_pair_first : plan_cost three_places three_tables [] (Join (HashJoin (Base (Seq 0)) (Base (Seq 1)) 0) (Probe 2 1)) ≡ 3224 * COST_SCALE + COST_SCALE / 64
+smallest_pair_first : plan_cost three_places three_tables [] (Join (HashJoin (Base (Seq 0)) (Base (Seq 1)) 0)
+    (Probe 2 1)) ≡ 3224 * COST_SCALE + COST_SCALE / 64
 unfolding three_places three_tables usual_weights table_of edge_of card_of kappa digits digits_within
 smallest_pair_first = refl
 
@@ -116,7 +128,8 @@ numbers_below (suc number) = number ∷ numbers_below number
 least_any : Space → ℕ → ℕ → Option ℕ
 least_any space zero set = None
 least_any space (suc most) set =
-    least_of (map (λ access. if set == one (place_of access) then Some (COST_SCALE * access_unit space.statement space.tables [] access) else None) space.accesses
+    least_of (map (λ access. if set == one (place_of access)
+    then Some (COST_SCALE * access_unit space.statement space.tables [] access) else None) space.accesses
     ++ map (λ step. if has set (place_entering step) && joins_from space (set - one (place_entering step)) step
     then plus (least_any space most (set - one (place_entering step)))
     (step_cost space.statement space.tables [] (set - one (place_entering step)) step)
@@ -142,7 +155,8 @@ three_space = record {
 cells : map (least_any three_space 3) (0 ∷ 1 ∷ 2 ∷ 3 ∷ 4 ∷ 5 ∷ 6 ∷ 7 ∷ [])
     ≡ None ∷ Some (8 * COST_SCALE) ∷ Some (1024 * COST_SCALE) ∷ Some (3104 * COST_SCALE) ∷ Some (1024 * COST_SCALE)
     ∷ Some (144 * COST_SCALE) ∷ Some (7168 * COST_SCALE) ∷ Some (352 * COST_SCALE + COST_SCALE / 64) ∷ []
-unfolding least_any least_of numbers_below plus sum lesser joins_from joins_with some_edge three_space accesses three_places three_tables usual_weights table_of edge_of card_of kappa digits digits_within
+unfolding least_any least_of numbers_below plus sum lesser joins_from joins_with some_edge three_space accesses
+    three_places three_tables usual_weights table_of edge_of card_of kappa digits digits_within
 cells = refl
 
 -- From both ends: SELECT a.x FROM a, b, c, d WHERE a.x = b.x AND b.m = c.m AND c.y = d.y over tables of 100 rows
@@ -150,7 +164,8 @@ cells = refl
 
 four_places : Statement
 four_places =
-    statement_with (table_of (codes "a") (codes "x" ∷ []) ∷ table_of (codes "b") (codes "x" ∷ codes "m" ∷ []) ∷ table_of (codes "c") (codes "m" ∷ codes "y" ∷ []) ∷ table_of (codes "d") (codes "y" ∷ []) ∷ [])
+    statement_with (table_of (codes "a") (codes "x" ∷ []) ∷ table_of (codes "b") (codes "x" ∷ codes "m" ∷ [])
+    ∷ table_of (codes "c") (codes "m" ∷ codes "y" ∷ []) ∷ table_of (codes "d") (codes "y" ∷ []) ∷ [])
     [] (edge_of 0 0 1 0 ∷ edge_of 1 1 2 0 ∷ edge_of 2 1 3 0 ∷ []) (item.Column (column_of 0 0) ∷ []) [] []
 
 four_tables : Statistics
@@ -189,11 +204,13 @@ spelling = refl
 -- the first pair, the last pair, and their join
 both_ends : map (plan_cost four_places four_tables []) (first_pair ∷ last_pair ∷ from_both_ends ∷ [])
     ≡ 700 * COST_SCALE ∷ 700 * COST_SCALE ∷ 11800 * COST_SCALE ∷ []
-unfolding from_both_ends first_pair last_pair four_places four_tables usual_weights table_of edge_of card_of kappa digits digits_within
+unfolding from_both_ends first_pair last_pair four_places four_tables usual_weights table_of edge_of card_of kappa
+    digits digits_within
 both_ends = refl
 
 both_ends_in_full : plan_cost four_places four_tables [] from_both_ends ≡ 12974237207756800
-unfolding from_both_ends first_pair last_pair four_places four_tables usual_weights table_of edge_of card_of kappa digits digits_within
+unfolding from_both_ends first_pair last_pair four_places four_tables usual_weights table_of edge_of card_of kappa
+    digits digits_within
 both_ends_in_full = refl
 
 one_end : plan_cost four_places four_tables [] (HashJoin (HashJoin first_pair (Base (Seq 2)) 1) (Base (Seq 3)) 2)
@@ -219,7 +236,8 @@ is_single set = set == one 0 || set == one 1 || set == one 2 || set == one 3
 -- the least cost of all plans, and of those that take in one place after the other
 least_costs : map (λ is_inner. least_any (four_space is_inner) 4 15) ((λ set. true) ∷ is_single ∷ [])
     ≡ Some (11800 * COST_SCALE) ∷ Some (41500 * COST_SCALE) ∷ []
-unfolding least_any least_of numbers_below plus sum lesser joins_from joins_with some_edge four_space is_single scans four_places four_tables usual_weights table_of edge_of card_of kappa digits digits_within
+unfolding least_any least_of numbers_below plus sum lesser joins_from joins_with some_edge four_space is_single scans
+    four_places four_tables usual_weights table_of edge_of card_of kappa digits digits_within
 least_costs = refl
 
 -- A small join, worked by hand in docs/COST_MODEL.md: SELECT o.total FROM customers c, orders o WHERE c.id =
@@ -228,8 +246,10 @@ least_costs = refl
 
 orders : Statement
 orders =
-    statement_with (table_of (codes "c") (codes "id" ∷ codes "name" ∷ []) ∷ table_of (codes "o") (codes "customer" ∷ codes "total" ∷ []) ∷ [])
-    (record { at = column_of 1 1; test = test.Gt (operand.Param 0) } ∷ []) (edge_of 0 0 1 0 ∷ []) (item.Column (column_of 1 1) ∷ []) [] []
+    statement_with (table_of (codes "c") (codes "id" ∷ codes "name" ∷ [])
+    ∷ table_of (codes "o") (codes "customer" ∷ codes "total" ∷ []) ∷ [])
+    (record { at = column_of 1 1; test = test.Gt (operand.Param 0) } ∷ []) (edge_of 0 0 1 0
+    ∷ []) (item.Column (column_of 1 1) ∷ []) [] []
 
 shop : Statistics
 shop = record {
@@ -263,7 +283,11 @@ few_orders = refl
 
 in_order : Statement
 in_order =
-    statement_with (table_of (codes "t") (codes "v" ∷ codes "w" ∷ []) ∷ []) (record { at = column_of 0 1; test = test.Lt (operand.Param 0) } ∷ []) []
+    statement_with (table_of (codes "t") (codes "v" ∷ codes "w" ∷ []) ∷ []) (record {
+      at = column_of 0 1;
+      test =
+          test.Lt (operand.Param 0);
+    } ∷ []) []
     (item.Column (column_of 0 0) ∷ []) [] (ascending (column_of 0 0) ∷ [])
 
 thousand_rows : Statistics

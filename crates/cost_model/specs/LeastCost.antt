@@ -1,10 +1,13 @@
 -- The least cost of a statement, and tables of lower bounds: tight ones, and feasible ones.
-use Rattle.std.specs.Prelude.{ℕ, ◌≡◌, ◌<◌, ◌≤◌, ◌+◌, ◌*◌, ◌^◌, Bool, true, false, IsTrue, List, length, Option, Some, None}
+use Rattle.std.specs.Prelude.{ℕ, ◌≡◌, ◌<◌, ◌≤◌, ◌+◌, ◌*◌, ◌^◌, Bool, true, false, IsTrue, List, length, Option, Some}
+use Rattle.std.specs.Prelude.{None}
 use Rattle.row_values.specs.Statements.{Statement}
 use Rattle.plan_trees.specs.declared.plans.Access.{Access}
 use Rattle.plan_trees.specs.declared.plans.StepKind.{StepKind}
 use Rattle.plan_trees.specs.PlaceSets.{one, all_below}
-use Rattle.plan_trees.specs.PlanSpace.{IsValidAccess, IsValidStep, IsValidHashJoin, IsValidPlan, IsValidTop, IsSortedPlan, has_all_keys, is_grouped, is_sorted_access, wanted_order, wants_order}
+use Rattle.plan_trees.specs.PlanSpace.{IsValidAccess, IsValidStep, IsValidHashJoin, IsValidPlan, IsValidTop}
+use Rattle.plan_trees.specs.PlanSpace.{IsSortedPlan, has_all_keys, is_grouped, is_sorted_access, wanted_order}
+use Rattle.plan_trees.specs.PlanSpace.{wants_order}
 use Rattle.plan_trees.specs.Statistics.{Statistics}
 use Rattle.plan_trees.specs.Trees.{Tree, TopTree, place_of, place_entering, places_of}
 use Rattle.cost_model.specs.Cardinalities.{card_of}

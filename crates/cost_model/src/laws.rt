@@ -1,5 +1,6 @@
 //! Laws of costs. Their promise is the clause; there is nothing to run.
-ghost use Rattle.cost_model.specs.Laws.{CostCheckLaw, CostRangeLaw, GrowthLaw, LeastCostLaw, LeastGrowthLaw, LowerBoundLaw, SelectivityCheckLaw, TightIsFeasible};
+ghost use Rattle.cost_model.specs.Laws.{CostCheckLaw, CostRangeLaw, GrowthLaw, LeastCostLaw, LeastGrowthLaw};
+ghost use Rattle.cost_model.specs.Laws.{LowerBoundLaw, SelectivityCheckLaw, TightIsFeasible};
 
 /// Every sound statement has a least cost, with any indexes and at every vector.
 pub fn a_least_cost_exists()

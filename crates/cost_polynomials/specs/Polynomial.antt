@@ -2,7 +2,9 @@
 --
 -- A set of selectivities is a mask, whose lowest bit stands for the first selectivity. A vector has a number for each
 -- selectivity, in order; one that is missing counts as 1.
-use Rattle.std.specs.Prelude.{Option, Some, None, ℕ, ◌≡◌, ◌+◌, ◌*◌, ◌/◌, ◌%◌, ◌^◌, ◌<◌, ◌≤◌, ◌==◌, nat_lt, if◌then◌else◌, ◌⊎◌, List, [], ◌∷◌, ◌++◌, map, length, slice_index, slice_index_or, All, bit_and, bit_or}
+use Rattle.std.specs.Prelude.{Option, Some, None, ℕ, ◌≡◌, ◌+◌, ◌*◌, ◌/◌, ◌%◌, ◌^◌, ◌<◌, ◌≤◌, ◌==◌, nat_lt}
+use Rattle.std.specs.Prelude.{if◌then◌else◌, ◌⊎◌, List, [], ◌∷◌, ◌++◌, map, length, slice_index, slice_index_or, All}
+use Rattle.std.specs.Prelude.{bit_and, bit_or}
 use Rattle.std.specs.Int.{bit_at}
 
 -- a term: a set of selectivities, and its coefficient

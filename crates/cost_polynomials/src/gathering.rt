@@ -1,4 +1,5 @@
-//! Terms gathered into a list in the order of their masks, at most one term for each set of selectivities.
+//! Terms gathered into a list in the order of their masks, at most one term for each set of
+//! selectivities.
 //!
 //! A refused call leaves its list half done, and its caller drops the list.
 

@@ -1,7 +1,9 @@
 //! Laws on the values of polynomials, for proofs in the crates above: nothing here computes.
 //!
-//! Let a vector of counts go from `a` to `q`. Where some of its numbers grew, the value of a polynomial
-//! grows by at most the factor by which their product grew. Where some shrank, it shrinks by at most
+//! Let a vector of counts go from `a` to `q`. Where some of its numbers grew, the value of a
+//! polynomial
+//! grows by at most the factor by which their product grew. Where some shrank, it shrinks by at
+//! most
 //! the factor by which their product shrank.
 
 ghost use Rattle.std.specs.Prelude.{◌≡◌, ◌*◌, ◌≤◌, length};

@@ -1,10 +1,14 @@
-//! The polynomials themselves: built from constants and selectivities, added, multiplied, evaluated.
+//! The polynomials themselves: built from constants and selectivities, added, multiplied,
+//! evaluated.
 //!
-//! A polynomial is seen as the list of its terms, each a set of selectivities and a coefficient. The
+//! A polynomial is seen as the list of its terms, each a set of selectivities and a coefficient.
+//! The
 //! definitions of sum, product and value know no limit, and each call here says when it meets one.
 
 ghost use Rattle.std.specs.Prelude.{◌≡◌, ℕ, List, [], ◌∷◌, ◌+◌, ◌*◌, ◌<◌, ◌≤◌, ◌^◌, IfOk, IfSome, IsErrOf, OnOk};
-ghost use Rattle.cost_polynomials.specs.Polynomial.{AllFit, AreApart, HasLarge, HasNumbers, IsExactly, IsPolynomial, IsVectorFor, number_at, poly_product, poly_sum, product_over, value_of};
+ghost use Rattle.cost_polynomials.specs.Polynomial.{AllFit, AreApart, HasLarge, HasNumbers, IsExactly, IsPolynomial};
+ghost use Rattle.cost_polynomials.specs.Polynomial.{IsVectorFor, number_at, poly_product, poly_sum, product_over};
+ghost use Rattle.cost_polynomials.specs.Polynomial.{value_of};
 
 use crate::gathering::{PolyFault, put_products, put_terms};
 use row_values::OutOfMemory;
@@ -13,7 +17,8 @@ use std::marker::Model;
 
 /// A polynomial with some terms, at most one for each set of selectivities.
 ///
-/// A set is a mask, whose bit `i` stands for selectivity `i`. The masks rise, and each coefficient is
+/// A set is a mask, whose bit `i` stands for selectivity `i`. The masks rise, and each coefficient
+/// is
 /// at least 1.
 #[derive(Debug, Drop)]
 pub struct Poly {

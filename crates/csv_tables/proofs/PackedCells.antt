@@ -1,5 +1,6 @@
 -- The packed numbers of a column are its cells.
-use Rattle.std.proofs.Common.{◌≡◌, ◌<◌, ◌≤◌, ◌⊎◌, inl, inr, ℕ, ℤ, ◌+◌, ◌*◌, List, [], ◌∷◌, ◌++◌, get_or, length, map, Option, None, Some, refl, sym, ap, ◌∙◌, pos, arith}
+use Rattle.std.proofs.Common.{◌≡◌, ◌<◌, ◌≤◌, ◌⊎◌, inl, inr, ℕ, ℤ, ◌+◌, ◌*◌, List, [], ◌∷◌, ◌++◌, get_or, length, map}
+use Rattle.std.proofs.Common.{Option, None, Some, refl, sym, ap, ◌∙◌, pos, arith}
 use Rattle.std.specs.List.{slice_get}
 use Rattle.std.specs.Option.{option_map}
 use Rattle.std.proofs.lemmas.Bool.{cases_lt}
@@ -10,7 +11,8 @@ use Rattle.row_values.specs.declared.columns.Column.{Column}
 use Rattle.row_values.specs.declared.values.Kind.{Kind}
 use Rattle.row_values.specs.declared.values.Value.{Value}
 use Rattle.row_values.specs.declared.values.Value.TheVariants.{Int}
-use Rattle.csv_tables.specs.Tables.{AreNumbers, IsKept, IsTable, TableValue, cell_at, column_kinds, rows_of, table_of_cells, value_in}
+use Rattle.csv_tables.specs.Tables.{AreNumbers, IsKept, IsTable, TableValue, cell_at, column_kinds, rows_of}
+use Rattle.csv_tables.specs.Tables.{table_of_cells, value_in}
 use Rattle.csv_tables.proofs.Rows.{cell_in_rows, length-rows_of}
 
 -- a column that has a kind is in range
@@ -75,6 +77,7 @@ all_read schema count all column numbers inside r = record {
         cell_in_rows count (length schema) all row column h inside
         ∙ (r.cells row d h ∙ ap (option_map Int) (sym (slice_get-get_or numbers row d (rw r.count h))))
     by_row row (inr h) =
-        let past : slice_get (rows_of count (length schema) all) row ≡ None = slice_get_past (rows_of count (length schema) all) row (rw (length-rows_of count (length schema) all) h) in
+        let past : slice_get (rows_of count (length schema) all) row ≡ None =
+        slice_get_past (rows_of count (length schema) all) row (rw (length-rows_of count (length schema) all) h) in
         let none : slice_get numbers row ≡ None = slice_get_past numbers row (rw r.count h) in
         rw (past, none) refl

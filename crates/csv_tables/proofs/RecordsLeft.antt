@@ -1,8 +1,10 @@
 -- Reading a record takes it off the records that are left.
-use Rattle.std.proofs.Common.{Bor, ◌≡◌, ◌<◌, ◌≤◌, ◌+◌, ℕ, zero, suc, true, false, List, [], ◌∷◌, Option, None, Some, length, refl, ap, sym, subst, add-one, ◌∙◌, arith, inl, inr, rules}
+use Rattle.std.proofs.Common.{Bor, ◌≡◌, ◌<◌, ◌≤◌, ◌+◌, ℕ, zero, suc, true, false, List, [], ◌∷◌, Option, None, Some}
+use Rattle.std.proofs.Common.{length, refl, ap, sym, subst, add-one, ◌∙◌, arith, inl, inr, rules}
 use Rattle.std.proofs.lemmas.Bool.{cases_Bool, true≢false}
 use Rattle.csv.proofs.ReadFacts.{rows-end, rows-more}
-use Rattle.csv.specs.Machine.{Read, ends_at_end, field_after, fields_after, is_end, next_record, step, in_field, start_field, start_record}
+use Rattle.csv.specs.Machine.{Read, ends_at_end, field_after, fields_after, is_end, next_record, step, in_field}
+use Rattle.csv.specs.Machine.{start_field, start_record}
 use Rattle.csv.specs.Reading.{Reached, ReadRecord, Ready, default_config, records_from, records_next}
 use Rattle.csv.specs.declared.parser.State.{State}
 use Rattle.csv.specs.declared.parser.State.TheVariants as st
@@ -60,9 +62,11 @@ shrinks s fields field [] read h =
     ]
 shrinks s fields field (c ∷ rest) read h =
     elim (cases_Bool (is_end (step default_config s c).1)) [
-      | inl e ↦ subst (λ (p : Read). Shrinks s (c ∷ rest) p) (same_read _ _ (rw e at h)) (shrinks_by_byte s _ c rest _ (step_ends s c e))
+      | inl e ↦ subst (λ (p : Read). Shrinks s (c ∷ rest) p) (same_read _ _ (rw e at h))
+          (shrinks_by_byte s _ c rest _ (step_ends s c e))
       | inr e ↦
-          let more = shrinks (step default_config s c).0 (fields_after (step default_config s c).1 fields field) (field_after (step default_config s c).1 c field) rest read (rw e at h) in
+          let more = shrinks (step default_config s c).0 (fields_after (step default_config s c).1 fields field)
+          (field_after (step default_config s c).1 c field) rest read (rw e at h) in
           record { between = more.between; weakly = omega arith; less = λ _. omega arith }
     ]
 
@@ -123,7 +127,8 @@ pub took : (old new : Reader (Bor (List ℕ))) (fields : List (List ℕ)) → Is
     → ReadRecord (λ bytes. Some bytes.now) old new true fields → Took old new fields
 unfolding Reached
 took old new fields b ready r =
-    let more = rows-more (λ (bytes : Bor (List ℕ)). Some bytes.now) old new fields default_config old.state b.bytes b.bytes [] b.config b.known (refl, refl) r in
+    let more = rows-more (λ (bytes : Bor (List ℕ)). Some bytes.now) old new fields default_config old.state b.bytes
+    b.bytes [] b.config b.known (refl, refl) r in
     let (rest, known, reached) = more in
     let (read, is, same, state_left) = reached in
     let (state, left) = state_left in
@@ -131,14 +136,23 @@ took old new fields b ready r =
     record {
       left =
           rw b.known
-          (next_left old.state b.bytes read b.between is ∙ same_left read fields new.state rest (bytes_left new) same state left known);
+          (next_left old.state b.bytes read b.between is
+          ∙ same_left read fields new.state rest (bytes_left new) same state left known);
       between =
-          record
-          { config = r.2 ∙ b.config; trim = r.3 ∙ b.trim; ready = ready; between = rw (← state) after.between; bytes = rest; known = known };
+          record {
+            config = r.2 ∙ b.config;
+            trim = r.3 ∙ b.trim;
+            ready = ready;
+            between = rw (← state) after.between;
+            bytes =
+                rest;
+            known = known;
+          };
     }
 
 pub ended : (old new : Reader (Bor (List ℕ))) (fields : List (List ℕ)) → IsBetween old
     → ReadRecord (λ bytes. Some bytes.now) old new false fields → records_in old.state (bytes_left old) ≡ []
 ended old new fields b r =
     rw b.known
-    (none_left old.state b.bytes (rows-end (λ (bytes : Bor (List ℕ)). Some bytes.now) old new fields default_config b.bytes b.config b.known r))
+    (none_left old.state b.bytes (rows-end (λ (bytes : Bor (List ℕ)). Some bytes.now) old new fields default_config
+    b.bytes b.config b.known r))

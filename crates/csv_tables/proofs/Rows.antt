@@ -1,5 +1,6 @@
 -- Rows that are cut out of one list of cells.
-use Rattle.std.proofs.Common.{◌≡◌, ◌<◌, ◌≤◌, ℕ, zero, suc, ◌+◌, ◌*◌, List, [], ◌∷◌, drop, length, take, refl, ap, ◌∙◌, arith, zero-add, zero-mul, suc-add, suc-mul, mul-le-mul_right}
+use Rattle.std.proofs.Common.{◌≡◌, ◌<◌, ◌≤◌, ℕ, zero, suc, ◌+◌, ◌*◌, List, [], ◌∷◌, drop, length, take, refl, ap, ◌∙◌}
+use Rattle.std.proofs.Common.{arith, zero-add, zero-mul, suc-add, suc-mul, mul-le-mul_right}
 use Rattle.std.specs.List.{slice_get}
 use Rattle.row_values.specs.declared.values.Value.{Value}
 use Rattle.csv_tables.specs.Tables.{rows_of, value_in}
@@ -31,7 +32,8 @@ cell_in_rows (suc count) width cells zero column h k = rw (zero-mul, zero-add) (
 cell_in_rows (suc count) width cells (suc row) column h k =
     let e : suc row * width + column ≡ width + (row * width + column) = rw suc-mul (omega arith) in
     rw e
-    (cell_in_rows count width (drop width cells) row column (omega arith) k ∙ slice_get-drop width (row * width + column) cells)
+    (cell_in_rows count width (drop width cells) row column (omega arith) k
+    ∙ slice_get-drop width (row * width + column) cells)
 
 -- and that place is in the list
 pub cell_place : (count width row column : ℕ) → row < count → column < width → row * width + column < count * width

@@ -1,5 +1,7 @@
 -- A file without a fault spells a table.
-use Rattle.std.proofs.Common.{if◌then◌else◌, ◌≡◌, ◌≤◌, ◌+◌, ◌*◌, ℕ, suc, nat_eq, Bool, true, false, not, ◌||◌, List, [], ◌∷◌, ◌++◌, get_or, length, map, Option, None, Some, Ok, refl, sym, ap, ◌∙◌, arith, zero-mul, suc-mul, length-append}
+use Rattle.std.proofs.Common.{if◌then◌else◌, ◌≡◌, ◌≤◌, ◌+◌, ◌*◌, ℕ, suc, nat_eq, Bool, true, false, not, ◌||◌, List, []}
+use Rattle.std.proofs.Common.{◌∷◌, ◌++◌, get_or, length, map, Option, None, Some, Ok, refl, sym, ap, ◌∙◌, arith}
+use Rattle.std.proofs.Common.{zero-mul, suc-mul, length-append}
 use Rattle.std.proofs.lemmas.Bool.{and_parts, or_parts, true≢false}
 use Rattle.std.proofs.lemmas.List.{drop_at, get_or-map, length-map, take_at}
 use Rattle.std.specs.List.{flat_map, list_all, list_any}
@@ -11,7 +13,8 @@ use Rattle.row_values.specs.declared.columns.TheConstants.{COLUMN_LIMIT}
 use Rattle.row_values.specs.declared.values.Kind.{Kind}
 use Rattle.row_values.specs.declared.values.Kind.TheVariants.{Int, Text}
 use Rattle.row_values.specs.declared.values.Value.{Value}
-use Rattle.csv_tables.specs.Cells.{all_numbers, are_cells, bad_column, columns_from, field, is_cell, is_number_column, kind_by, may_stand, value_of, values_from}
+use Rattle.csv_tables.specs.Cells.{all_numbers, are_cells, bad_column, columns_from, field, is_cell, is_number_column}
+use Rattle.csv_tables.specs.Cells.{kind_by, may_stand, value_of, values_from}
 use Rattle.csv_tables.specs.Headers.{bad_name, heading_of, is_bad_name, name_of}
 use Rattle.csv_tables.specs.Numbers.{is_whole_number}
 use Rattle.csv_tables.specs.Spelled.{bad_cell, cell_in_row, faults_of, first_of, table_of, uneven_row}
@@ -50,8 +53,11 @@ row_is_sound : (column : ℕ) (headings : List Heading) (all : List (List (List 
     → are_cells column (columns_from column headings all) row ≡ true
 row_is_sound column [] all row h n = refl
 row_is_sound column (heading ∷ headings) all row h n =
-    let (here, rest) = none_here (may_stand heading.kind_tag (field row column)) (column + 1) (bad_column (suc column) headings row) h in
-    let cell = stands heading.kind_tag (is_number_column column all) (field row column) here (λ e. n column (and_parts _ _ e).1) in
+    let (here, rest) =
+    none_here (may_stand heading.kind_tag (field row column)) (column + 1) (bad_column (suc column) headings row) h
+    in
+    let cell = stands heading.kind_tag (is_number_column column all) (field row column) here
+    (λ e. n column (and_parts _ _ e).1) in
     rw (cell) (row_is_sound (suc column) headings all row rest n)
 
 pub rows_are_sound : (n : ℕ) (headings : List Heading) (all rows : List (List (List ℕ)))
@@ -61,9 +67,11 @@ pub rows_are_sound : (n : ℕ) (headings : List Heading) (all rows : List (List 
 rows_are_sound n headings all [] h p = refl
 rows_are_sound n headings all (row ∷ rows) h p =
     let (here, below) = none_in_row n (bad_column 0 headings row) (bad_cell (suc n) headings rows) h in
-    let this = row_is_sound 0 headings all row here (λ k e. (and_parts (is_whole_number (field row k)) (all_numbers k rows) (p k e)).0) in
+    let this = row_is_sound 0 headings all row here
+    (λ k e. (and_parts (is_whole_number (field row k)) (all_numbers k rows) (p k e)).0) in
     rw (this)
-    (rows_are_sound (suc n) headings all rows below (λ k e. (and_parts (is_whole_number (field row k)) (all_numbers k rows) (p k e)).1))
+    (rows_are_sound (suc n) headings all rows below
+    (λ k e. (and_parts (is_whole_number (field row k)) (all_numbers k rows) (p k e)).1))
 
 -- ---- the columns are a schema
 
@@ -106,19 +114,25 @@ not_again : (name : List ℕ) (n : ℕ) (earlier : List (List ℕ)) (columns : L
     → is_name_in name columns ≡ false
 not_again name n earlier [] h there = refl
 not_again name n earlier (column ∷ columns) h there =
-    let (good, rest) = good_or_bad (is_bad_name earlier column.name) n (bad_name (suc n) (earlier ++ column.name ∷ []) (names_of columns)) h in
+    let (good, rest) =
+    good_or_bad (is_bad_name earlier column.name) n (bad_name (suc n) (earlier ++ column.name
+    ∷ []) (names_of columns)) h in
     let new = (good_parts earlier column.name good).1 in
     rw (there column.name new)
-    (not_again name (suc n) (earlier ++ column.name ∷ []) columns rest (λ other e. there other (any-append (bytes_eq other) earlier (column.name ∷ []) e).0))
+    (not_again name (suc n) (earlier ++ column.name ∷ []) columns rest
+    (λ other e. there other (any-append (bytes_eq other) earlier (column.name ∷ []) e).0))
 
 pub names_are_good : (n : ℕ) (earlier : List (List ℕ)) (columns : List Column)
     → bad_name n earlier (names_of columns) ≡ None → are_names columns ≡ true
 names_are_good n earlier [] h = refl
 names_are_good n earlier (column ∷ columns) h =
-    let (good, rest) = good_or_bad (is_bad_name earlier column.name) n (bad_name (suc n) (earlier ++ column.name ∷ []) (names_of columns)) h in
+    let (good, rest) =
+    good_or_bad (is_bad_name earlier column.name) n (bad_name (suc n) (earlier ++ column.name
+    ∷ []) (names_of columns)) h in
     let full = (good_parts earlier column.name good).0 in
     let alone = not_again column.name (suc n) (earlier ++ column.name ∷ []) columns rest
-    (λ other e. (or_parts (bytes_eq other column.name) false (any-append (bytes_eq other) earlier (column.name ∷ []) e).1).0) in
+    (λ other e. (or_parts (bytes_eq other column.name) false (any-append (bytes_eq other) earlier (column.name
+    ∷ []) e).1).0) in
     rw (full, alone) (names_are_good (suc n) (earlier ++ column.name ∷ []) columns rest)
 
 pub is_schema : (header : List (List ℕ)) (rows : List (List (List ℕ))) → NoFault header rows
@@ -191,7 +205,8 @@ behind_header true header fields rows left h = cc
 behind_header false header fields rows left h = cc
 
 -- what is known of a file that was found to be sound, and of the columns that were made of it
-pub record Built (bytes : List ℕ) (headings : List Heading) (survey : Survey) (columns : List Column) (left : List (List (List ℕ))) : Type 0 where
+pub record Built (bytes : List ℕ) (headings : List Heading) (survey : Survey) (columns : List Column)
+    (left : List (List (List ℕ))) : Type 0 where
   pub rows : List (List (List ℕ))
   pub left_are : left ≡ rows
   pub row_count : survey.row_count ≡ length rows
@@ -201,7 +216,8 @@ pub record Built (bytes : List ℕ) (headings : List Heading) (survey : Survey) 
   pub sound : list_all (are_cells 0 columns) rows ≡ true
   pub spells : table_of bytes ≡ Ok (record { schema = columns; rows = map (values_from 0 columns) rows })
 
-pub built : (bytes : List ℕ) (headings : List Heading) (survey : Survey) (columns : List Column) (found : Bool) (fields : List (List ℕ)) (left : List (List (List ℕ)))
+pub built : (bytes : List ℕ) (headings : List Heading) (survey : Survey) (columns : List Column) (found : Bool)
+    (fields : List (List ℕ)) (left : List (List (List ℕ)))
     → (file : IsSoundFile bytes headings survey) → columns ≡ columns_from 0 headings file.rows
     → records_of bytes ≡ (if found then fields ∷ left else []) → Built bytes headings survey columns left
 built bytes headings survey columns found fields left file made next =
@@ -226,13 +242,15 @@ pub record Second (columns schema slice : List Column) (items : List Value) (lef
   pub slice_is : slice ≡ columns
   pub items_are : items ≡ flat_map (values_from 0 slice) left
 
-pub kept : (bytes : List ℕ) (headings : List Heading) (survey : Survey) (columns schema slice : List Column) (items : List Value) (left : List (List (List ℕ)))
+pub kept : (bytes : List ℕ) (headings : List Heading) (survey : Survey) (columns schema slice : List Column)
+    (items : List Value) (left : List (List (List ℕ)))
     → Built bytes headings survey columns left → Second columns schema slice items left
     → IsKept schema survey.row_count items
 kept bytes headings survey columns schema slice items left k s =
     rw (s.schema_is, s.items_are, s.slice_is, k.left_are, k.row_count) (is_kept columns k.rows k.schema k.few k.cells)
 
-pub spells : (bytes : List ℕ) (headings : List Heading) (survey : Survey) (columns schema slice : List Column) (items : List Value) (left : List (List (List ℕ)))
+pub spells : (bytes : List ℕ) (headings : List Heading) (survey : Survey) (columns schema slice : List Column)
+    (items : List Value) (left : List (List (List ℕ)))
     → Built bytes headings survey columns left → Second columns schema slice items left
     → table_of bytes ≡ Ok (table_of_cells schema survey.row_count items)
 spells bytes headings survey columns schema slice items left k s =
@@ -241,20 +259,23 @@ spells bytes headings survey columns schema slice items left k s =
 -- ---- what the readings say
 
 -- the header and the rows of a file, where its header and its shape have no fault
-pub record Read (bytes : List ℕ) (header : List (List ℕ)) (rows : List (List (List ℕ))) (headings : List Heading) : Type 0 where
+pub record Read (bytes : List ℕ) (header : List (List ℕ)) (rows : List (List (List ℕ))) (headings : List Heading) : Type
+    0 where
   pub reads : records_of bytes ≡ header ∷ rows
   pub columns : length header ≤ COLUMN_LIMIT
   pub names : bad_name 1 [] (map name_of header) ≡ None
   pub headings_are : headings ≡ map heading_of header
   pub shape : shape_faults (length rows) (length header) (uneven_row 1 (length header) rows) ≡ None
 
-pub cell_fault_is_first : (bytes : List ℕ) (header : List (List ℕ)) (rows : List (List (List ℕ))) (headings : List Heading) (survey : Survey) (at : ℕ × ℕ)
+pub cell_fault_is_first : (bytes : List ℕ) (header : List (List ℕ)) (rows : List (List (List ℕ)))
+    (headings : List Heading) (survey : Survey) (at : ℕ × ℕ)
     → Read bytes header rows headings → IsSurvey headings rows survey → survey.bad_cell ≡ Some at
     → first_of (faults_of header rows) ≡ Some (BadCell at.0 at.1)
 cell_fault_is_first bytes header rows headings survey at r s e =
     cell_first header rows (Some at) r.columns r.names r.shape (rw r.headings_are at (sym s.bad_cell) ∙ e)
 
-pub sound_file : (bytes : List ℕ) (header : List (List ℕ)) (rows : List (List (List ℕ))) (headings : List Heading) (survey : Survey)
+pub sound_file : (bytes : List ℕ) (header : List (List ℕ)) (rows : List (List (List ℕ))) (headings : List Heading)
+    (survey : Survey)
     → Read bytes header rows headings → IsSurvey headings rows survey → survey.bad_cell ≡ None
     → IsSoundFile bytes headings survey
 sound_file bytes header rows headings survey r s e = record {

@@ -1,5 +1,7 @@
 -- The first fault of a header and data rows.
-use Rattle.std.proofs.Common.{if◌then◌else◌, ◌+◌, ◌∙◌, suc, nat_eq, ap, inl, inr, ◌≡◌, ◌<◌, ◌≤◌, ◌*◌, ℕ, nat_lt, Bool, true, false, List, [], ◌∷◌, length, map, option_map, Option, None, Some, Ok, Err, refl, sym, arith}
+use Rattle.std.proofs.Common.{if◌then◌else◌, ◌+◌, ◌∙◌, suc, nat_eq, ap, inl, inr, ◌≡◌, ◌<◌, ◌≤◌, ◌*◌, ℕ, nat_lt, Bool}
+use Rattle.std.proofs.Common.{true, false, List, [], ◌∷◌, length, map, option_map, Option, None, Some, Ok, Err, refl}
+use Rattle.std.proofs.Common.{sym, arith}
 use Rattle.std.proofs.lemmas.Bool.{cases_Bool}
 use Rattle.std.proofs.lemmas.Bool.Decides.{nat_tests}
 use Rattle.std.specs.Option.{IfSome}
@@ -54,7 +56,8 @@ name_first header rows fault h e = rw (within COLUMN_LIMIT (length header) h, e)
 abbrev pub shape_faults : ℕ → ℕ → Option ℕ → Option TableFault
 shape_faults row_count column_count uneven =
     first_of
-    (fault_if (nat_lt ROW_LIMIT row_count) Rows ∷ fault_if (nat_lt CELL_LIMIT (row_count * column_count)) Cells ∷ option_map NotCsv uneven ∷ [])
+    (fault_if (nat_lt ROW_LIMIT row_count) Rows ∷ fault_if (nat_lt CELL_LIMIT (row_count * column_count)) Cells
+    ∷ option_map NotCsv uneven ∷ [])
 
 first_of_three : (a b d e : Option TableFault) (fault : TableFault) → first_of (a ∷ b ∷ d ∷ []) ≡ Some fault
     → first_of (a ∷ b ∷ d ∷ e ∷ []) ≡ Some fault
@@ -79,7 +82,8 @@ pub shape_first : (header : List (List ℕ)) (rows : List (List (List ℕ))) (fa
     → shape_faults (length rows) (length header) (uneven_row 1 (length header) rows) ≡ Some fault
     → first_of (faults_of header rows) ≡ Some fault
 shape_first header rows fault few names h = rw (within COLUMN_LIMIT (length header) few, names)
-    (first_of_three (fault_if (nat_lt ROW_LIMIT (length rows)) Rows) (fault_if (nat_lt CELL_LIMIT (length rows * length header)) Cells)
+    (first_of_three (fault_if (nat_lt ROW_LIMIT (length rows)) Rows)
+    (fault_if (nat_lt CELL_LIMIT (length rows * length header)) Cells)
     (option_map NotCsv (uneven_row 1 (length header) rows))
     (option_map cell_fault (bad_cell 1 (map heading_of header) rows)) fault h)
 
@@ -89,8 +93,10 @@ pub cell_first : (header : List (List ℕ)) (rows : List (List (List ℕ))) (bad
     → shape_faults (length rows) (length header) (uneven_row 1 (length header) rows) ≡ None
     → bad_cell 1 (map heading_of header) rows ≡ bad → first_of (faults_of header rows) ≡ option_map cell_fault bad
 cell_first header rows bad few names h e = rw (within COLUMN_LIMIT (length header) few, names)
-    (last_of_four (fault_if (nat_lt ROW_LIMIT (length rows)) Rows) (fault_if (nat_lt CELL_LIMIT (length rows * length header)) Cells)
-    (option_map NotCsv (uneven_row 1 (length header) rows)) (option_map cell_fault (bad_cell 1 (map heading_of header) rows)) h
+    (last_of_four (fault_if (nat_lt ROW_LIMIT (length rows)) Rows)
+    (fault_if (nat_lt CELL_LIMIT (length rows * length header)) Cells)
+    (option_map NotCsv (uneven_row 1 (length header) rows))
+    (option_map cell_fault (bad_cell 1 (map heading_of header) rows)) h
     ∙ ap (option_map cell_fault) e)
 
 first_is_none : (fault : Option TableFault) (faults : List (Option TableFault)) → first_of (fault ∷ faults) ≡ None
@@ -159,12 +165,14 @@ some_counted (header ∷ rows) shape width s e = record {
 }
 
 -- and it is the first that is read
-pub record FirstRead (records : List (List (List ℕ))) (shape : Shape) (width : ℕ) (fields : List (List ℕ)) (left : List (List (List ℕ))) : Type 0 where
+pub record FirstRead (records : List (List (List ℕ))) (shape : Shape) (width : ℕ) (fields : List (List ℕ))
+    (left : List (List (List ℕ))) : Type 0 where
   pub are : records ≡ fields ∷ left
   pub width_is : width ≡ length fields
   pub shape_is : IsShapeOf (length fields) left shape
 
-pub first_read : (records : List (List (List ℕ))) (shape : Shape) (width : ℕ) (found : Bool) (fields : List (List ℕ)) (left : List (List (List ℕ)))
+pub first_read : (records : List (List (List ℕ))) (shape : Shape) (width : ℕ) (found : Bool) (fields : List (List ℕ))
+    (left : List (List (List ℕ)))
     → Headed records shape width → records ≡ (if found then fields ∷ left else [])
     → FirstRead records shape width fields left
 first_read records shape width false fields left h e = let are = h.are in cc
@@ -200,7 +208,8 @@ no_fault header rows h =
     let (columns, names, many, cells, bad) = all_none
     (fault_if (nat_lt COLUMN_LIMIT (length header)) Columns) (option_map BadHeader (bad_name 1 [] (map name_of header)))
     (fault_if (nat_lt ROW_LIMIT (length rows)) Rows) (fault_if (nat_lt CELL_LIMIT (length rows * length header)) Cells)
-    (option_map NotCsv (uneven_row 1 (length header) rows)) (option_map cell_fault (bad_cell 1 (map heading_of header) rows)) h in
+    (option_map NotCsv (uneven_row 1 (length header) rows))
+    (option_map cell_fault (bad_cell 1 (map heading_of header) rows)) h in
     record {
       columns = not_above COLUMN_LIMIT (length header) (if_none (nat_lt COLUMN_LIMIT (length header)) Columns columns);
       names = map_none (λ (n : ℕ). BadHeader n) (bad_name 1 [] (map name_of header)) names;

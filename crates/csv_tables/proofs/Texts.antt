@@ -1,5 +1,6 @@
 -- Whole numbers are UTF-8.
-use Rattle.std.proofs.Common.{◌≡◌, ◌<◌, ◌^◌, ℕ, zero, suc, Bool, true, false, ◌&&◌, List, [], ◌∷◌, get_or, refl, arith, lit<, Option, None, Some, if◌then◌else◌, sym, eqb→eq}
+use Rattle.std.proofs.Common.{◌≡◌, ◌<◌, ◌^◌, ℕ, zero, suc, Bool, true, false, ◌&&◌, List, [], ◌∷◌, get_or, refl, arith}
+use Rattle.std.proofs.Common.{lit<, Option, None, Some, if◌then◌else◌, sym, eqb→eq}
 use Rattle.std.specs.Prelude.{is_some, nat_eq, nat_lt, nat_le}
 use Rattle.std.specs.Char.{is_ascii_digit}
 use Rattle.std.proofs.lemmas.Bool.{and_parts, false≢true}
@@ -28,10 +29,12 @@ spelled_is_ascii : (first : ℕ) (rest : List ℕ) (b : Bool) → nat_eq first 4
     → (i : ℕ) → get_or (first ∷ rest) i 0 < 128
 spelled_is_ascii first rest true e h zero = omega (arith, eqb→eq first 45 (rw e tt))
 spelled_is_ascii first rest true e h (suc i) =
-    let digits = (and_parts (are_digits rest) _ (shown (are_digits rest && nat_le (read_on 0 rest) (2 ^ 63)) _ (rw e at h))).0 in
+    let digits = (and_parts (are_digits rest) _ (shown (are_digits rest && nat_le (read_on 0 rest) (2 ^ 63)) _
+    (rw e at h))).0 in
     digits_are_ascii rest (and_parts _ (all_ascii_digits rest) digits).1 i
 spelled_is_ascii first rest false e h i =
-    let digits = (and_parts (are_digits (first ∷ rest)) _ (shown (are_digits (first ∷ rest) && nat_lt (read_on 0 (first ∷ rest)) (2 ^ 63)) _ (rw e at h))).0 in
+    let digits = (and_parts (are_digits (first ∷ rest)) _ (shown (are_digits (first ∷ rest)
+    && nat_lt (read_on 0 (first ∷ rest)) (2 ^ 63)) _ (rw e at h))).0 in
     digits_are_ascii (first ∷ rest) (and_parts _ (all_ascii_digits (first ∷ rest)) digits).1 i
 
 number_is_ascii : (text : List ℕ) → is_whole_number text ≡ true → (i : ℕ) → get_or text i 0 < 128

@@ -1,5 +1,7 @@
 -- The fields of records, counted byte by byte.
-use Rattle.std.proofs.Common.{◌≡◌, ◌<◌, ◌≤◌, ◌+◌, ◌∙◌, ℕ, zero, suc, nat_eq, Bool, true, false, ◌&&◌, if◌then◌else◌, List, [], ◌∷◌, ◌++◌, drop, length, map, take, Option, None, Some, refl, sym, ap, add-zero, zero-add, arith}
+use Rattle.std.proofs.Common.{◌≡◌, ◌<◌, ◌≤◌, ◌+◌, ◌∙◌, ℕ, zero, suc, nat_eq, Bool, true, false, ◌&&◌, if◌then◌else◌}
+use Rattle.std.proofs.Common.{List, [], ◌∷◌, ◌++◌, drop, length, map, take, Option, None, Some, refl, sym, ap, add-zero}
+use Rattle.std.proofs.Common.{zero-add, arith}
 use Rattle.std.specs.Cmp.Lexicographic.{pointwise}
 use Rattle.std.specs.Option.{option_or}
 use Rattle.std.proofs.lemmas.Bool.{and_parts, false≢true}
@@ -59,14 +61,17 @@ WidthsOf None ws = ws ≡ []
 WidthsOf (Some read) ws = ws ≡ length read.0 ∷ widths read.1 0 read.2
 
 at_end : (ends : Bool) (fields : List (List ℕ)) (field : List ℕ)
-    → WidthsOf (if ends then Some (fields ++ (field ∷ []), st.StartRecord, []) else None) (if ends then (length fields + 1) ∷ [] else [])
+    → WidthsOf (if ends then Some (fields ++ (field ∷ []), st.StartRecord, []) else None) (if ends
+    then (length fields + 1) ∷ [] else [])
 at_end false fields field = refl
 at_end true fields field = ap (λ (n : ℕ). n ∷ []) (sym (length_push fields field))
 
 at_byte : (a : Action) (s : State) (fields : List (List ℕ)) (field : List ℕ) (byte : ℕ) (rest : List ℕ)
     → ((f : List (List ℕ)) (g : List ℕ) → WidthsOf (next_record default_config s f g rest) (widths s (length f) rest))
-    → WidthsOf (if is_end a then Some (fields_after a fields field, s, rest) else next_record default_config s (fields_after a fields field) (field_after a byte field) rest)
-    (by_end (end_of a) (widths s (length fields) rest) (widths s (length fields + 1) rest) ((length fields + 1) ∷ widths s 0 rest))
+    → WidthsOf (if is_end a then Some (fields_after a fields field, s, rest)
+    else next_record default_config s (fields_after a fields field) (field_after a byte field) rest)
+    (by_end (end_of a) (widths s (length fields) rest) (widths s (length fields + 1) rest) ((length fields + 1)
+    ∷ widths s 0 rest))
 at_byte act.Skip s fields field byte rest ih = ih fields field
 at_byte act.Copy s fields field byte rest ih = ih fields (field ++ (byte ∷ []))
 at_byte act.EndField s fields field byte rest ih = rw (length_push fields field) at (ih (fields ++ (field ∷ [])) [])
@@ -83,7 +88,8 @@ widths_of s fields field (byte ∷ rest) =
 widths_after : (n : ℕ) (s : State) (bytes : List ℕ) (read : Option Read)
     → next_record default_config s [] [] bytes ≡ read
     → ends_at_end s ≡ false → length bytes ≤ n → WidthsOf read (widths s 0 bytes)
-    → ((t : State) (rest : List ℕ) → ends_at_end t ≡ false → length rest < n → map length (records_from default_config n t rest) ≡ widths t 0 rest)
+    → ((t : State) (rest : List ℕ) → ends_at_end t ≡ false → length rest < n
+    → map length (records_from default_config n t rest) ≡ widths t 0 rest)
     → map length (records_next (records_from default_config n) read) ≡ widths s 0 bytes
 widths_after n s bytes None is e h w ih = sym w
 widths_after n s bytes (Some read) is e h w ih =
@@ -108,7 +114,8 @@ abbrev under : ℕ → ℕ → Option ℕ → Shape
 under columns n uneven = record { column_count = Some columns; row_count = n; uneven = uneven }
 
 counted : (columns n : ℕ) (uneven : Option ℕ) (rows : List (List (List ℕ)))
-    → all_noted (under columns n uneven) (map length rows) ≡ under columns (n + length rows) (option_or uneven (uneven_row (n + 1) columns rows))
+    → all_noted (under columns n uneven) (map length rows)
+    ≡ under columns (n + length rows) (option_or uneven (uneven_row (n + 1) columns rows))
 counted columns n uneven [] = rw (add-zero n, none_later uneven) refl
 counted columns n uneven (row ∷ rows) =
     let more : n + 1 + length rows ≡ n + suc (length rows) = omega arith in

@@ -1,5 +1,6 @@
 -- The cells of data rows: which may stand in a column, and their values.
-use Rattle.std.specs.Prelude.{ℕ, suc, ◌+◌, ◌==◌, Bool, true, not, ◌&&◌, if◌then◌else◌, List, [], ◌∷◌, length, slice_index_or, Option, None, Some}
+use Rattle.std.specs.Prelude.{ℕ, suc, ◌+◌, ◌==◌, Bool, true, not, ◌&&◌, if◌then◌else◌, List, [], ◌∷◌, length}
+use Rattle.std.specs.Prelude.{slice_index_or, Option, None, Some}
 use Rattle.std.specs.List.{list_all}
 use Rattle.std.specs.Str.{is_utf8}
 use Rattle.row_values.specs.declared.columns.Column.{Column}
@@ -46,7 +47,8 @@ kind_by None is_number = if is_number then Int else Text
 abbrev pub columns_from : ℕ → List Heading → List (List (List ℕ)) → List Column
 columns_from column [] rows = []
 columns_from column (heading ∷ headings) rows =
-    record { name = heading.name; kind = kind_by heading.kind_tag (is_number_column column rows) } ∷ columns_from (suc column) headings rows
+    record { name = heading.name; kind = kind_by heading.kind_tag (is_number_column column rows) }
+    ∷ columns_from (suc column) headings rows
 
 -- the values of a row, from this column on
 abbrev pub values_from : ℕ → List Column → List (List ℕ) → List Value

@@ -1,5 +1,6 @@
 -- The table that bytes spell, or the first fault.
-use Rattle.std.specs.Prelude.{ℕ, suc, ◌*◌, ◌==◌, nat_lt, Bool, if◌then◌else◌, List, [], ◌∷◌, length, map, option_map, Option, None, Some, Result, Ok, Err}
+use Rattle.std.specs.Prelude.{ℕ, suc, ◌*◌, ◌==◌, nat_lt, Bool, if◌then◌else◌, List, [], ◌∷◌, length, map, option_map}
+use Rattle.std.specs.Prelude.{Option, None, Some, Result, Ok, Err}
 use Rattle.row_values.specs.declared.columns.TheConstants.{COLUMN_LIMIT}
 use Rattle.csv_tables.specs.Cells.{bad_column, columns_from, values_from}
 use Rattle.csv_tables.specs.Headers.{bad_name, heading_of, name_of}

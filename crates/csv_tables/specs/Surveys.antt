@@ -1,5 +1,6 @@
 -- What a first reading of the data rows finds.
-use Rattle.std.specs.Prelude.{◌≡◌, ℕ, suc, ◌+◌, ◌<◌, Bool, true, false, ◌&&◌, List, [], ◌∷◌, length, map, replicate, slice_index_or, option_map, None}
+use Rattle.std.specs.Prelude.{◌≡◌, ℕ, suc, ◌+◌, ◌<◌, Bool, true, false, ◌&&◌, List, [], ◌∷◌, length, map, replicate}
+use Rattle.std.specs.Prelude.{slice_index_or, option_map, None}
 use Rattle.std.specs.Option.{option_or}
 use Rattle.csv_tables.specs.Cells.{all_numbers, bad_column, field}
 use Rattle.csv_tables.specs.Numbers.{is_whole_number}
@@ -24,7 +25,8 @@ pub record IsNew (column_count : ℕ) (survey : Survey) : Type 0 where
 -- a survey notes a row more
 pub record Notes (headings : List Heading) (row : List (List ℕ)) (old new : Survey) : Type 0 where
   pub row_count : new.row_count ≡ old.row_count + 1
-  pub bad_cell : new.bad_cell ≡ option_or old.bad_cell (option_map (λ column. (new.row_count, column)) (bad_column 0 headings row))
+  pub bad_cell : new.bad_cell
+      ≡ option_or old.bad_cell (option_map (λ column. (new.row_count, column)) (bad_column 0 headings row))
   pub numbers : new.numbers.items ≡ numbers_after 0 old.numbers.items row
 
 -- a survey of these rows

@@ -1,5 +1,6 @@
 -- What a table is: columns, and rows that have a value for each of them.
-use Rattle.std.specs.Prelude.{◌≡◌, ℕ, ℤ, zero, suc, ◌*◌, ◌≤◌, List, [], ◌∷◌, All, Option, None, Some, drop, length, map, option_map, slice_get, slice_index_or, take}
+use Rattle.std.specs.Prelude.{◌≡◌, ℕ, ℤ, zero, suc, ◌*◌, ◌≤◌, List, [], ◌∷◌, All, Option, None, Some, drop, length, map}
+use Rattle.std.specs.Prelude.{option_map, slice_get, slice_index_or, take}
 use Rattle.row_values.specs.Columns.{IsSchema}
 use Rattle.row_values.specs.Values.{kind_of}
 use Rattle.row_values.specs.declared.columns.Column.{Column}

@@ -1,6 +1,7 @@
 //! The second reading of the data rows: their cells as values, one row after the other.
 //!
-//! The first reading found each cell to be one of its column's kind. The one way in is `read_cells`.
+//! The first reading found each cell to be one of its column's kind. The one way in is
+//! `read_cells`.
 ghost use Rattle.std.specs.Prelude.{◌≡◌, ◌≤◌, ◌*◌, ◌++◌, IfOk, IsTrue, OnOk, length};
 ghost use Rattle.std.specs.List.{flat_map, list_all};
 ghost use Rattle.csv.specs.Records.{fields_of};

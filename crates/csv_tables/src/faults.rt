@@ -1,12 +1,14 @@
 //! Why bytes are no table.
 //!
-//! The variants stand in the order in which they count. Rows and columns are numbered from 1, the header is no row.
+//! The variants stand in the order in which they count. Rows and columns are numbered from 1, the
+//! header is no row.
 ghost use Rattle.std.specs.Prelude.{◌≡◌};
 
 use row_values::OutOfMemory;
 use std::alloc::AllocFailed;
 
-/// The first thing that is wrong with the bytes of a table, or want of memory, which may come before any of them.
+/// The first thing that is wrong with the bytes of a table, or want of memory, which may come
+/// before any of them.
 #[derive(Clone, Copy, Debug, PartialEq, Eq)]
 pub enum TableFault {
     /// More columns than a table may have.
@@ -19,7 +21,8 @@ pub enum TableFault {
     Cells,
     /// The data row of this number hasn't as many fields as the header.
     NotCsv(u32),
-    /// The cell in this data row and column isn't UTF-8, or no whole number under a header cell that says so.
+    /// The cell in this data row and column isn't UTF-8, or no whole number under a header cell
+    /// that says so.
     BadCell(u32, u32),
     /// There wasn't memory enough.
     Memory,

@@ -1,6 +1,7 @@
 //! The header of a file: a name for each column, and the kind that it tags, if any.
 //!
-//! A header cell `x:int` or `x:text` names x and tags its kind, every other cell is a name alone. The one way in is
+//! A header cell `x:int` or `x:text` names x and tags its kind, every other cell is a name alone.
+//! The one way in is
 //! `read_header`.
 ghost use Rattle.std.specs.Prelude.{◌≡◌, ◌≢◌, ◌≤◌, [], IfErr, IfOk, None, Some, length, map, option_map};
 ghost use Rattle.std.specs.List.{list_any};
@@ -60,7 +61,8 @@ fn is_named(headings: &[Heading], name: &str) -> bool
     false
 }
 
-/// The headings of a header; refused at the first whose name is empty, isn't UTF-8, or is there already.
+/// The headings of a header; refused at the first whose name is empty, isn't UTF-8, or is there
+/// already.
 pub(crate) fn read_header(alloc: Global, row: &ByteRecord) -> Result<Vec<Heading>, TableFault>
     requires { length (fields_of row.now) ≤ COLUMN_LIMIT }
     ensures ok { IfOk result (λ headings. (headings.items ≡ map heading_of (fields_of row.now))

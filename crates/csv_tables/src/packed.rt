@@ -39,7 +39,8 @@ pub(crate) fn pack(
     cells: &[Value],
 ) -> Result<Vec<Vec<i64>>, OutOfMemory>
     requires { IsKept schema.now row_count cells.now }
-    ensures { IfOk result (λ packed. ArePacked (table_of_cells schema.now row_count cells.now) (map (λ numbers. numbers.items) packed.items)) }
+    ensures { IfOk result (λ packed. ArePacked (table_of_cells schema.now row_count cells.now)
+        (map (λ numbers. numbers.items) packed.items)) }
 {
     let mut packed = Vec::new(alloc);
     for (column, this) in schema.columns().iter().enumerate() {

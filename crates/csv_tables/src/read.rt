@@ -1,9 +1,12 @@
 //! Reading a table: its shape, its header, a survey of its rows, and only then their cells.
 //!
-//! The bytes are read three times, since most faults and the kind of a column without a tag are known at the last
-//! row alone. Nothing is kept before the last reading, so that what is refused costs no memory. The one way in is
+//! The bytes are read three times, since most faults and the kind of a column without a tag are
+//! known at the last
+//! row alone. Nothing is kept before the last reading, so that what is refused costs no memory. The
+//! one way in is
 //! `read_table`.
-ghost use Rattle.std.specs.Prelude.{◌≡◌, ◌≢◌, ◌≤◌, ◌∷◌, ◌*◌, [], nat_lt, Err, IfErr, IfOk, IfSome, List, Ok, length, option_map, ℕ};
+ghost use Rattle.std.specs.Prelude.{◌≡◌, ◌≢◌, ◌≤◌, ◌∷◌, ◌*◌, [], nat_lt, Err, IfErr, IfOk, IfSome, List, Ok, length};
+ghost use Rattle.std.specs.Prelude.{option_map, ℕ};
 ghost use Rattle.row_values.specs.declared.columns.TheConstants.{COLUMN_LIMIT};
 ghost use Rattle.csv_tables.specs.Cells.{columns_from, kind_by};
 ghost use Rattle.csv_tables.specs.Spelled.{fault_if, first_of, table_of};
@@ -54,7 +57,8 @@ fn fault_of_shape(column_count: usize, shape: &Shape) -> Option<TableFault>
     requires columns { column_count ≤ COLUMN_LIMIT }
     requires uneven { IfSome shape.now.uneven (λ number. number ≤ shape.now.row_count) }
     ensures { result ≡ first_of (fault_if (nat_lt ROW_LIMIT shape.now.row_count) Rows
-        ∷ fault_if (nat_lt CELL_LIMIT (shape.now.row_count * column_count)) Cells ∷ option_map NotCsv shape.now.uneven ∷ []) }
+        ∷ fault_if (nat_lt CELL_LIMIT (shape.now.row_count * column_count)) Cells ∷ option_map NotCsv shape.now.uneven
+        ∷ []) }
 {
     if shape.row_count > ROW_LIMIT {
         return Some(TableFault::Rows);
@@ -90,9 +94,11 @@ fn build(
     Ok(table)
 }
 
-/// The table that bytes of CSV spell, or the first fault that they have; see `TableFault` for the order.
+/// The table that bytes of CSV spell, or the first fault that they have; see `TableFault` for the
+/// order.
 ///
-/// The first record is the header. A header cell `x:int` or `x:text` names a column and tags its kind; a column
+/// The first record is the header. A header cell `x:int` or `x:text` names a column and tags its
+/// kind; a column
 /// without a tag is INT exactly where there is a data row and each of its cells is a whole number.
 pub fn read_table(alloc: Global, bytes: &[u8]) -> Result<Table, TableFault>
     ensures table { IfOk result (λ table. table_of bytes.now ≡ Ok table) }

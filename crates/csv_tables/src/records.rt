@@ -1,6 +1,7 @@
 //! The records of a file in turn, each read into one record that is used again.
 //!
-//! Contracts see a `Records` as the list of the records that are left, so that no caller knows the crate `csv`.
+//! Contracts see a `Records` as the list of the records that are left, so that no caller knows the
+//! crate `csv`.
 //! Only want of memory ends it early.
 ghost use Rattle.std.specs.Prelude.{◌≡◌, ◌∷◌, [], if◌then◌else◌, IfOk};
 ghost use Rattle.csv.specs.Records.{fields_of};

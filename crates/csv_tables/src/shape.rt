@@ -1,7 +1,9 @@
 //! The shape of a file: how many fields its records have, found without keeping any.
 //!
-//! The crate `csv` keeps a record whole before it can say how long it is. So this reading comes first: it follows the
-//! crate's machine byte by byte and counts, and a file with too much in it is refused by its shape, in no memory. The
+//! The crate `csv` keeps a record whole before it can say how long it is. So this reading comes
+//! first: it follows the
+//! crate's machine byte by byte and counts, and a file with too much in it is refused by its shape,
+//! in no memory. The
 //! one way in is `shape_of`.
 ghost use Rattle.std.specs.Prelude.{◌≡◌, ◌<◌, ◌≤◌, ◌^◌, ◌+◌, ◌-◌, ◌∷◌, List, ℕ};
 ghost use Rattle.csv.specs.Machine.{ends_at_end, in_field, start_field, start_record, step};
@@ -29,7 +31,8 @@ enum End {
     Record,
 }
 
-/// How long the records of a file are: the fields of the header, where there is one, the number of data rows, and the
+/// How long the records of a file are: the fields of the header, where there is one, the number of
+/// data rows, and the
 /// first of those that isn't as long as the header.
 #[derive(Clone, Copy, Debug)]
 pub(crate) struct Shape {
@@ -159,7 +162,8 @@ fn without_mark(bytes: &[u8]) -> &[u8]
     }
 }
 
-/// What was counted up to a byte: the records before it, its state, and the fields that ended before it in its record.
+/// What was counted up to a byte: the records before it, its state, and the fields that ended
+/// before it in its record.
 #[derive(Clone, Copy, Debug)]
 struct Count {
     shape: Shape,

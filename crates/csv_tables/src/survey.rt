@@ -1,4 +1,5 @@
-//! A first reading of the data rows, which are as long as the header: the first bad cell, and which columns hold
+//! A first reading of the data rows, which are as long as the header: the first bad cell, and which
+//! columns hold
 //! nothing but numbers.
 //!
 //! It keeps no cell. The one way in is `survey_rows`.
@@ -41,7 +42,8 @@ fn is_text(is_number: bool, text: &[u8]) -> bool
     }
 }
 
-/// Whether a cell may stand under a heading with this tag. It notes whether its column still holds nothing but numbers.
+/// Whether a cell may stand under a heading with this tag. It notes whether its column still holds
+/// nothing but numbers.
 fn note_cell(kind_tag: Option<Kind>, numbers: &mut bool, text: &[u8]) -> bool
     ensures numbers { numbers.new ≡ (numbers.old && is_whole_number text.now) }
     ensures stands { result ≡ may_stand kind_tag text.now }
@@ -55,7 +57,8 @@ fn note_cell(kind_tag: Option<Kind>, numbers: &mut bool, text: &[u8]) -> bool
     }
 }
 
-/// The number of the first column whose cell in this row may not stand there, if any. It notes which columns still
+/// The number of the first column whose cell in this row may not stand there, if any. It notes
+/// which columns still
 /// hold nothing but numbers.
 fn note_cells(headings: &[Heading], numbers: &mut [bool], row: &ByteRecord) -> Option<u32>
     requires one_each { length numbers.old ≡ length headings.now }

@@ -1,7 +1,9 @@
 //! Tables: columns and rows, never changed once made, and shared by `Rc`.
 //!
-//! The cells stand in one list, row after row, and those of a column of whole numbers once more as packed numbers.
-//! Every table has at most 2^20 rows and 2^22 cells, and each row has a value per column, of that column's kind:
+//! The cells stand in one list, row after row, and those of a column of whole numbers once more as
+//! packed numbers.
+//! Every table has at most 2^20 rows and 2^22 cells, and each row has a value per column, of that
+//! column's kind:
 //! `IsTable`, which `schema`, `len` and `numbers` give to callers.
 ghost use Rattle.std.specs.Prelude.{◌≡◌, ◌<◌, ◌↔◌, IfOk, IfSome, IsSome, Some, length, slice_get};
 ghost use Rattle.row_values.specs.declared.values.Kind.TheVariants.{Int};
@@ -39,7 +41,8 @@ impl Model for Table {
 }
 
 impl Table {
-    /// The table of these columns and of so many rows, whose cells are given row after row. It packs the numbers.
+    /// The table of these columns and of so many rows, whose cells are given row after row. It
+    /// packs the numbers.
     pub(crate) fn of(
         alloc: Global,
         schema: Schema,
@@ -84,7 +87,8 @@ impl Table {
         &self.cells.as_slice()[row * width + column]
     }
 
-    /// The numbers of this column, counted from 0, in row order; some exactly where it is a column of whole numbers.
+    /// The numbers of this column, counted from 0, in row order; some exactly where it is a column
+    /// of whole numbers.
     pub fn numbers(&self, column: usize) -> Option<&[i64]>
         requires { column < length self.now.schema }
         ensures found { IsSome result ↔ slice_get (column_kinds self.now.schema) column ≡ Some Int }

@@ -1,7 +1,9 @@
 -- Sets of selectivities as masks: what a union, an intersection and a single selectivity hold.
-use Rattle.std.proofs.Common.{ℕ, ◌≡◌, ◌*◌, ◌%◌, ◌^◌, ◌<◌, ◌==◌, ◌≢◌, ◌⊎◌, inl, inr, min, max, Bool, true, false, ◌||◌, ◌&&◌, arith, refl, sym, ◌∙◌, bit_and, bit_or, subst, w8}
+use Rattle.std.proofs.Common.{ℕ, ◌≡◌, ◌*◌, ◌%◌, ◌^◌, ◌<◌, ◌==◌, ◌≢◌, ◌⊎◌, inl, inr, min, max, Bool, true, false, ◌||◌}
+use Rattle.std.proofs.Common.{◌&&◌, arith, refl, sym, ◌∙◌, bit_and, bit_or, subst, w8}
 use Rattle.std.specs.Int.{bit_at, trailing_zeros}
-use Rattle.std.proofs.lemmas.Nat.Bits.{bit_at-trailing_zeros, bit_at-lt, bit_at_and, bit_at_or, bit_at-zero, bit_at-pow_same, bit_at-pow_other, same_from_bits}
+use Rattle.std.proofs.lemmas.Nat.Bits.{bit_at-trailing_zeros, bit_at-lt, bit_at_and, bit_at_or, bit_at-zero}
+use Rattle.std.proofs.lemmas.Nat.Bits.{bit_at-pow_same, bit_at-pow_other, same_from_bits}
 use Rattle.std.proofs.Math.Pow.{pow-lt}
 use Rattle.std.proofs.lemmas.Bool.Decides.{nat_tests}
 use Rattle.growth_checker.specs.Sharing.{has}
@@ -45,7 +47,9 @@ no_bit x h k = grind (arith, nat_tests)
 
 -- sets without a selectivity in common
 pub sets_apart : (a b : ℕ) → ((i : ℕ) → (has a i && has b i) ≡ false) → bit_and a b ≡ 0
-sets_apart a b h = same_from_bits (bit_and a b) 0 (λ i. no_bit (bit_at (bit_and a b) i) (bit_at-lt (bit_and a b) i) (has-and a b i ∙ h i) ∙ sym (bit_at-zero i))
+sets_apart a b h =
+    same_from_bits (bit_and a b) 0 (λ i. no_bit (bit_at (bit_and a b) i) (bit_at-lt (bit_and a b) i) (has-and a b i
+    ∙ h i) ∙ sym (bit_at-zero i))
 
 -- a set of both, and a set of what both have, by what each is known to have
 
@@ -62,7 +66,8 @@ no_test : (x : ℕ) → x ≡ 0 → (x == 1) ≡ false
 no_test x h = rw h refl
 
 -- the place of the lowest 1 is the first selectivity in the set
-pub first_in : (mask i : ℕ) → 0 < mask → mask < 2 ^ 8 → trailing_zeros w8 mask ≡ i → (has mask i ≡ true) × ((j : ℕ) → j < i → has mask j ≡ false)
+pub first_in : (mask i : ℕ) → 0 < mask → mask < 2 ^ 8 → trailing_zeros w8 mask ≡ i → (has mask i ≡ true)
+    × ((j : ℕ) → j < i → has mask j ≡ false)
 first_in mask i some small e =
     let first = bit_at-trailing_zeros w8 mask some small in
     subst (λ (k : ℕ). (has mask k ≡ true) × ((j : ℕ) → j < k → has mask j ≡ false)) e

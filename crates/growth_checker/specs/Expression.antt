@@ -1,5 +1,6 @@
 -- Expressions of whole numbers and selectivities: what they mean, and their expanded form.
-use Rattle.std.specs.Prelude.{ℕ, ◌≡◌, ◌+◌, ◌*◌, ◌^◌, ◌<◌, ◌≤◌, ◌==◌, Bool, true, false, ◌||◌, ◌&&◌, List, [], ◌∷◌, slice_index}
+use Rattle.std.specs.Prelude.{ℕ, ◌≡◌, ◌+◌, ◌*◌, ◌^◌, ◌<◌, ◌≤◌, ◌==◌, Bool, true, false, ◌||◌, ◌&&◌, List, [], ◌∷◌}
+use Rattle.std.specs.Prelude.{slice_index}
 use Rattle.cost_polynomials.specs.Polynomial.{Term, number_at, poly_sum, poly_product}
 use Rattle.growth_checker.specs.declared.expression.Expr.{Expr, Num, Sel, Sum', Mul'}
 

@@ -1,12 +1,15 @@
 //! The shape of an expression: its expanded form, where no product has a selectivity on both sides.
 //!
-//! The selectivities on both sides of products are found first, in one walk over the whole expression, so
-//! that the least of them is named whatever else is wrong. All numbers are at least 1 and nothing cancels,
+//! The selectivities on both sides of products are found first, in one walk over the whole
+//! expression, so
+//! that the least of them is named whatever else is wrong. All numbers are at least 1 and nothing
+//! cancels,
 //! so a coefficient that is too large on the way is too large in the end.
 
 ghost use Rattle.std.specs.Prelude.{◌≡◌, ℕ, List, IfOk, IsErrOf, OnOk};
 ghost use Rattle.cost_polynomials.specs.Polynomial.{AllFit, HasLarge, IsVectorFor, value_of};
-ghost use Rattle.growth_checker.specs.Expression.{expanded, formula, IsFirstShared, IsSound, IsUnshared, HasSelectivities, mentions, shares, value_at};
+ghost use Rattle.growth_checker.specs.Expression.{expanded, formula, IsFirstShared, IsSound, IsUnshared};
+ghost use Rattle.growth_checker.specs.Expression.{HasSelectivities, mentions, shares, value_at};
 ghost use Rattle.growth_checker.specs.Sharing.{AreProductsApart, has};
 
 use crate::Expr;
@@ -24,7 +27,8 @@ pub enum ShapeFault {
     Memory,
 }
 
-/// Two sets of selectivities: those of an expression, and those that some product has on both sides.
+/// Two sets of selectivities: those of an expression, and those that some product has on both
+/// sides.
 #[derive(Clone, Copy)]
 struct Uses {
     present: u8,

@@ -1,4 +1,5 @@
-//! Which cost expressions grow no faster than their selectivities: those whose expanded form has each
+//! Which cost expressions grow no faster than their selectivities: those whose expanded form has
+//! each
 //! selectivity at most once in a term.
 //!
 //! `shape` answers the expanded form as a polynomial, or says why there is none. It looks at the

@@ -1,5 +1,6 @@
 -- A known reference means a column that is there.
-use Rattle.std.proofs.Common.{ℕ, ◌≡◌, ◌+◌, ◌==◌, List, [], ◌∷◌, Bool, true, false, ◌&&◌, ◌||◌, if◌then◌else◌, IsSome, refl, zero-add, add-one}
+use Rattle.std.proofs.Common.{ℕ, ◌≡◌, ◌+◌, ◌==◌, List, [], ◌∷◌, Bool, true, false, ◌&&◌, ◌||◌, if◌then◌else◌, IsSome}
+use Rattle.std.proofs.Common.{refl, zero-add, add-one}
 use Rattle.std.specs.Option.{option_map}
 use Rattle.std.specs.Str.{bytes_eq}
 use Rattle.std.specs.List.{slice_get}
@@ -46,9 +47,11 @@ not_here : (found : Bool) (n : ℕ) → (((if found then 1 else 0) + n) == 0) �
 not_here true n h e = cc
 not_here false n h e = rw zero-add at h
 
-pub known_column : (r : RawRef) (places : List Place) → is_unknown places r ≡ false → IsSome (kind_at places (meant places r))
+pub known_column : (r : RawRef) (places : List Place) → is_unknown places r ≡ false
+    → IsSome (kind_at places (meant places r))
 known_column r [] h = cc
 known_column r (place ∷ places) h =
-    place_step (can_mean r place) place places (place_number r places) (column_in r places) (column_number r.column place.schema)
+    place_step (can_mean r place) place places (place_number r places) (column_in r places)
+    (column_number r.column place.schema)
     (λ e. column_there r.column place.schema (both_right (goes_with r.alias place) _ e))
     (λ e. known_column r places (not_here (can_mean r place) _ h e))

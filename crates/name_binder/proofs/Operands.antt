@@ -1,5 +1,6 @@
 -- Binding a test binds its operands in text order; how many of them are parameters.
-use Rattle.std.proofs.Common.{ℕ, ◌≡◌, ◌≤◌, ◌+◌, ◌*◌, List, [], ◌∷◌, ◌++◌, length, nat_lt, Bool, true, false, if◌then◌else◌, refl, arith}
+use Rattle.std.proofs.Common.{ℕ, ◌≡◌, ◌≤◌, ◌+◌, ◌*◌, List, [], ◌∷◌, ◌++◌, length, nat_lt, Bool, true, false}
+use Rattle.std.proofs.Common.{if◌then◌else◌, refl, arith}
 use Rattle.std.specs.List.{list_any}
 use Rattle.std.proofs.lemmas.Bool.{ltb-false}
 use Rattle.row_values.specs.declared.operands.TheConstants.{OPERAND_LIMIT}
@@ -22,7 +23,8 @@ from_operands n (Eq a) = refl
 from_operands n (Between a b) = refl
 from_operands n (OneOf operands) = refl
 
-pub count_append : (front back : List RawOperand) → parameter_count (front ++ back) ≡ parameter_count front + parameter_count back
+pub count_append : (front back : List RawOperand) → parameter_count (front ++ back)
+    ≡ parameter_count front + parameter_count back
 count_append [] back = omega arith
 count_append (Literal value ∷ front) back = omega (arith, count_append front back)
 count_append (Param ∷ front) back = omega (arith, count_append front back)

@@ -20,11 +20,14 @@ use Rattle.sql_parser.specs.declared.statement.RawCond.{RawCond}
 use Rattle.sql_parser.specs.declared.statement.RawCond.TheVariants as cond
 use Rattle.sql_parser.specs.declared.statement.RawKey.{RawKey}
 use Rattle.name_binder.specs.declared.faults.BindFault.{BindFault}
-use Rattle.name_binder.specs.declared.faults.BindFault.TheVariants.{UnknownTable, AliasTwice, UnknownColumn, Ambiguous, Misfit, TooMany, NotGrouped, SumOfText, Memory}
+use Rattle.name_binder.specs.declared.faults.BindFault.TheVariants.{UnknownTable, AliasTwice, UnknownColumn, Ambiguous}
+use Rattle.name_binder.specs.declared.faults.BindFault.TheVariants.{Misfit, TooMany, NotGrouped, SumOfText, Memory}
 use Rattle.name_binder.specs.Catalog.{Known}
 use Rattle.name_binder.specs.References.{places_of, meant}
 use Rattle.name_binder.specs.Parameters.{test_count}
-use Rattle.name_binder.specs.Refusals.{first_unknown_table, first_repeated_alias, first_unknown_column, first_ambiguous, first_misfit, first_excess, first_ungrouped, first_sum_of_text, bound_item, bound_groups}
+use Rattle.name_binder.specs.Refusals.{first_unknown_table, first_repeated_alias, first_unknown_column, first_ambiguous}
+use Rattle.name_binder.specs.Refusals.{first_misfit, first_excess, first_ungrouped, first_sum_of_text, bound_item}
+use Rattle.name_binder.specs.Refusals.{bound_groups}
 use Rattle.row_values.specs.Names.{canonical_name}
 use Rattle.name_binder.specs.Spelling.{ref_text}
 
@@ -36,7 +39,8 @@ first_of (None ∷ others) = first_of others
 
 -- a table that isn't known
 abbrev pub table_refusal : List Known → List RawPlace → Option BindFault
-table_refusal tables entries = option_map (λ name. UnknownTable (canonical_name name)) (first_unknown_table tables entries)
+table_refusal tables entries =
+    option_map (λ name. UnknownTable (canonical_name name)) (first_unknown_table tables entries)
 
 -- names that mean two things or none, or columns that don't go together, in the order in which they count
 abbrev pub name_refusal : List Place → Parts → Option BindFault
@@ -99,7 +103,8 @@ preds_from places next (cond.Same a b ∷ conds) = preds_from places next conds
 abbrev pub edges_of : List Place → List RawCond → List Edge
 edges_of places [] = []
 edges_of places (cond.Test r t ∷ conds) = edges_of places conds
-edges_of places (cond.Same a b ∷ conds) = record { left = meant places a; right = meant places b } ∷ edges_of places conds
+edges_of places (cond.Same a b ∷ conds) = record { left = meant places a; right = meant places b }
+    ∷ edges_of places conds
 
 abbrev pub bound_key : List Place → RawKey → OrderKey
 bound_key places key = record { at = meant places key.at; descending = key.descending }
@@ -126,7 +131,8 @@ binding_of tables s = unless_refused (first_refusal tables s) (bound_statement (
 
 -- a call that is to give this gives it, or wants memory
 abbrev pub Gives : {T : Type 0} → Result T BindFault → Result T BindFault → Type 0
-Gives wanted outcome = MatchResult outcome (λ value. wanted ≡ Ok value) (λ fault. (fault ≡ Memory) ⊎ (wanted ≡ Err fault))
+Gives wanted outcome = MatchResult outcome (λ value. wanted ≡ Ok value) (λ fault. (fault ≡ Memory)
+    ⊎ (wanted ≡ Err fault))
 
 -- a check that is to refuse so refuses so, or wants memory
 abbrev pub Checks : {T : Type 0} → Option BindFault → Result T BindFault → Type 0

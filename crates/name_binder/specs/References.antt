@@ -1,5 +1,6 @@
 -- What a reference means among the places of a statement.
-use Rattle.std.specs.Prelude.{ℕ, ◌+◌, ◌==◌, nat_lt, List, [], ◌∷◌, ◌++◌, map, flat_map, filter_map, Bool, true, ◌&&◌, if◌then◌else◌, Option, Some, None, unwrap_or}
+use Rattle.std.specs.Prelude.{ℕ, ◌+◌, ◌==◌, nat_lt, List, [], ◌∷◌, ◌++◌, map, flat_map, filter_map, Bool, true, ◌&&◌}
+use Rattle.std.specs.Prelude.{if◌then◌else◌, Option, Some, None, unwrap_or}
 use Rattle.std.specs.Str.{bytes_eq}
 use Rattle.row_values.specs.Columns.{is_name_in}
 use Rattle.row_values.specs.Statements.{kind_at}
@@ -18,7 +19,12 @@ use Rattle.name_binder.specs.Catalog.{Known, schema_named}
 
 -- a place with the schema of its table
 abbrev pub place_of : List Known → RawPlace → Place
-place_of tables place = record { table = place.table; alias = place.alias; schema = unwrap_or (schema_named place.table tables) [] }
+place_of tables place = record {
+  table = place.table;
+  alias = place.alias;
+  schema =
+      unwrap_or (schema_named place.table tables) [];
+}
 
 abbrev pub places_of : List Known → List RawPlace → List Place
 places_of tables places = map (place_of tables) places

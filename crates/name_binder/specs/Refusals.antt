@@ -1,12 +1,14 @@
 -- The refusals of a statement: each a plain fact on its parts and the tables, with what it shows.
-use Rattle.std.specs.Prelude.{ℕ, ◌==◌, nat_lt, List, [], ◌∷◌, ◌++◌, length, map, find, codes, Bool, true, false, not, ◌&&◌, ◌||◌, if◌then◌else◌, Option, Some, None, is_none}
+use Rattle.std.specs.Prelude.{ℕ, ◌==◌, nat_lt, List, [], ◌∷◌, ◌++◌, length, map, find, codes, Bool, true, false, not}
+use Rattle.std.specs.Prelude.{◌&&◌, ◌||◌, if◌then◌else◌, Option, Some, None, is_none}
 use Rattle.std.specs.List.{list_all, list_any}
 use Rattle.std.specs.Option.{option_map, option_or, option_and_then}
 use Rattle.std.specs.Str.{bytes_eq}
 use Rattle.row_values.specs.Values.{kind_of}
 use Rattle.row_values.specs.Statements.{is_among, is_grouped_item, is_column_item}
 use Rattle.row_values.specs.declared.operands.TheConstants.{OPERAND_LIMIT}
-use Rattle.row_values.specs.declared.statement.TheConstants.{PLACE_LIMIT, SELECTIVITY_LIMIT, CONDITION_LIMIT, ITEM_LIMIT, KEY_LIMIT}
+use Rattle.row_values.specs.declared.statement.TheConstants.{PLACE_LIMIT, SELECTIVITY_LIMIT, CONDITION_LIMIT}
+use Rattle.row_values.specs.declared.statement.TheConstants.{ITEM_LIMIT, KEY_LIMIT}
 use Rattle.row_values.specs.declared.values.Kind.{Kind}
 use Rattle.row_values.specs.declared.values.Kind.TheVariants.{Int, Text}
 use Rattle.row_values.specs.declared.statement.Place.{Place}

@@ -25,7 +25,8 @@ use std::alloc::Global;
 
 /// Refused at the first alias that equals an earlier one.
 fn check_aliases(alloc: Global, entries: &[RawPlace]) -> Result<(), BindFault>
-    ensures { Checks (option_map (λ alias. BindFault.AliasTwice (canonical_name alias)) (refusals.first_repeated_alias [] entries.now)) result }
+    ensures { Checks (option_map (λ alias. BindFault.AliasTwice (canonical_name alias))
+        (refusals.first_repeated_alias [] entries.now)) result }
 {
     match first_repeated_alias(entries) {
         None => Ok(()),
@@ -35,7 +36,8 @@ fn check_aliases(alloc: Global, entries: &[RawPlace]) -> Result<(), BindFault>
 
 /// Refused at the first reference whose column no place has.
 fn check_unknown(alloc: Global, places: &[Place], refs: &[&RawRef]) -> Result<(), BindFault>
-    ensures { Checks (option_map (λ r. BindFault.UnknownColumn (ref_text r)) (find (is_unknown places.now) (map (λ r. r.now) refs.now))) result }
+    ensures { Checks (option_map (λ r. BindFault.UnknownColumn (ref_text r))
+        (find (is_unknown places.now) (map (λ r. r.now) refs.now))) result }
 {
     match first_unknown(places, refs) {
         None => Ok(()),
@@ -45,7 +47,8 @@ fn check_unknown(alloc: Global, places: &[Place], refs: &[&RawRef]) -> Result<()
 
 /// Refused at the first reference whose column two places or more have.
 fn check_ambiguous(alloc: Global, places: &[Place], refs: &[&RawRef]) -> Result<(), BindFault>
-    ensures { Checks (option_map (λ r. BindFault.Ambiguous (ref_text r)) (find (is_ambiguous places.now) (map (λ r. r.now) refs.now))) result }
+    ensures { Checks (option_map (λ r. BindFault.Ambiguous (ref_text r))
+        (find (is_ambiguous places.now) (map (λ r. r.now) refs.now))) result }
 {
     match first_ambiguous(places, refs) {
         None => Ok(()),
@@ -55,7 +58,8 @@ fn check_ambiguous(alloc: Global, places: &[Place], refs: &[&RawRef]) -> Result<
 
 /// Refused at the first condition that compares what doesn't go together.
 fn check_misfits(alloc: Global, places: &[Place], conds: &[RawCond]) -> Result<(), BindFault>
-    ensures { Checks (option_map (λ r. BindFault.Misfit (ref_text r)) (refusals.first_misfit places.now conds.now)) result }
+    ensures { Checks (option_map (λ r. BindFault.Misfit (ref_text r)) (refusals.first_misfit places.now conds.now))
+        result }
 {
     match first_misfit(places, conds) {
         None => Ok(()),
@@ -95,7 +99,8 @@ fn check_grouping(
 
 /// Refused at the first SUM over texts.
 fn check_sums(alloc: Global, places: &[Place], items: &[RawItem]) -> Result<(), BindFault>
-    ensures { Checks (option_map (λ r. BindFault.SumOfText (ref_text r)) (refusals.first_sum_of_text places.now items.now)) result }
+    ensures { Checks (option_map (λ r. BindFault.SumOfText (ref_text r))
+        (refusals.first_sum_of_text places.now items.now)) result }
 {
     match first_sum_of_text(places, items) {
         None => Ok(()),
@@ -139,7 +144,8 @@ fn check_names(alloc: Global, places: &[Place], s: &Select) -> Result<(), BindFa
     Ok(())
 }
 
-/// The GROUP BY columns; refused where the statement is too large or asks for what its rows don't have.
+/// The GROUP BY columns; refused where the statement is too large or asks for what its rows don't
+/// have.
 fn checked_groups(alloc: Global, places: &[Place], s: &Select) -> Result<Vec<ColRef>, BindFault>
     requires { length places.now ≡ length s.now.places }
     ensures checked { Checks (shape_refusal places.now s.now) result }

@@ -1,6 +1,7 @@
 //! The tables that names can stand for.
 //!
-//! What a catalog means is a list of names with their schemas, no name twice; looking a name up reads that list.
+//! What a catalog means is a list of names with their schemas, no name twice; looking a name up
+//! reads that list.
 use row_values::Schema;
 
 /// Tables with their schemas; contracts see them as the list `tables`.

@@ -1,4 +1,5 @@
-//! What is wrong with a statement whose references are known: kinds that don't go together, and items or keys that
+//! What is wrong with a statement whose references are known: kinds that don't go together, and
+//! items or keys that
 //! the grouping doesn't allow.
 //!
 //! Each `first_..` gives the first case in text order, and takes no memory.

@@ -13,7 +13,8 @@ pub enum BindFault {
     UnknownColumn(Words),
     /// A column that two places or more have: the reference.
     Ambiguous(Words),
-    /// A literal of another kind than its column, or an edge within one place or between two kinds: the
+    /// A literal of another kind than its column, or an edge within one place or between two kinds:
+    /// the
     /// reference on the left.
     Misfit(Words),
     /// A limit passed: `tables`, `predicates`, `conditions`, `items` or `keys`.

@@ -1,6 +1,7 @@
 //! Names to places: a statement over known tables becomes a bound statement, or is refused.
 //!
-//! `bind` is the one way in. Its answer is `binding_of`: the first of eight refusals, each showing its first case
+//! `bind` is the one way in. Its answer is `binding_of`: the first of eight refusals, each showing
+//! its first case
 //! in text order, or else the statement in which each reference is a place and a column.
 //! It knows schemas by the trait `Schemas`, and no rows.
 #![tactic(auto)]

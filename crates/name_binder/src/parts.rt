@@ -1,6 +1,8 @@
-//! The parts of the bound statement: each reference as the column that it means, each parameter with its number.
+//! The parts of the bound statement: each reference as the column that it means, each parameter
+//! with its number.
 //!
-//! All calls are for statements within the limits: few places, few parameterised predicates, and few operands in
+//! All calls are for statements within the limits: few places, few parameterised predicates, and
+//! few operands in
 //! each IN.
 ghost use Rattle.std.specs.Prelude.{◌≡◌, ◌≤◌, ◌<◌, ◌+◌, false, length, IfOk, map};
 ghost use Rattle.name_binder.specs.References as names;

@@ -17,8 +17,11 @@ pub fn bound_places<S: Schemas>(
     entries: &[RawPlace],
     schemas: &S,
 ) -> Result<Vec<Place>, BindFault>
-    ensures ok { IfOk result (λ places. (refusals.first_unknown_table (S.tables schemas.now) entries.now ≡ None) × (places.items ≡ places_of (S.tables schemas.now) entries.now)) }
-    ensures err { IfErr result (λ fault. (fault ≡ BindFault.Memory) ⊎ (option_map (λ name. BindFault.UnknownTable (canonical_name name)) (refusals.first_unknown_table (S.tables schemas.now) entries.now) ≡ Some fault)) }
+    ensures ok { IfOk result (λ places. (refusals.first_unknown_table (S.tables schemas.now) entries.now ≡ None)
+        × (places.items ≡ places_of (S.tables schemas.now) entries.now)) }
+    ensures err { IfErr result (λ fault. (fault ≡ BindFault.Memory)
+        ⊎ (option_map (λ name. BindFault.UnknownTable (canonical_name name))
+        (refusals.first_unknown_table (S.tables schemas.now) entries.now) ≡ Some fault)) }
 {
     let mut places = Vec::new(alloc);
     for entry in entries {

@@ -8,7 +8,8 @@ use row_values::OPERAND_LIMIT;
 use sql_parser::{RawOperand, RawTest};
 use std::slice;
 
-/// What the column is compared with: the operands of the first slice in text order, then those of the second.
+/// What the column is compared with: the operands of the first slice in text order, then those of
+/// the second.
 pub fn operands(test: &RawTest) -> (&[RawOperand], &[RawOperand])
     ensures { result.0.now ++ result.1.now ≡ parameters.operands_of test.now }
 {
@@ -55,7 +56,8 @@ fn parameter_count(operands: &[RawOperand]) -> u8
     count
 }
 
-/// How many parameters the test has, whose operands are few enough: none where it isn't parameterised.
+/// How many parameters the test has, whose operands are few enough: none where it isn't
+/// parameterised.
 #[tactic(auto, using(crate::proofs::Operands::count_append))]
 pub fn test_count(test: &RawTest) -> u8
     requires { refusals.is_long test.now ≡ false }

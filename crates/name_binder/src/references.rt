@@ -1,6 +1,7 @@
 //! What a reference means among the places.
 //!
-//! A reference that one place can mean is that place's column of its name; one that none can mean is past the
+//! A reference that one place can mean is that place's column of its name; one that none can mean
+//! is past the
 //! last place. `meant` gives the numbers, and `kind_meant` the column's kind.
 ghost use Rattle.std.specs.Prelude.{◌≡◌, ◌≤◌, ◌++◌, length, find, map, filter_map, flat_map, IfOk, OnOk};
 ghost use Rattle.std.specs.Option.{option_map};
@@ -132,7 +133,8 @@ pub fn item_ref(item: &RawItem) -> Option<&RawRef>
 
 /// Adds the references of items.
 fn push_item_refs<'a>(refs: &mut Vec<&'a RawRef>, items: &'a [RawItem]) -> Result<(), OutOfMemory>
-    ensures { OnOk result (map (λ r. r.now) refs.new.items ≡ map (λ r. r.now) refs.old.items ++ filter_map names.item_ref items.now) }
+    ensures { OnOk result (map (λ r. r.now) refs.new.items ≡ map (λ r. r.now) refs.old.items
+        ++ filter_map names.item_ref items.now) }
 {
     for item in items {
         if let Some(r) = item_ref(item) {
@@ -144,7 +146,8 @@ fn push_item_refs<'a>(refs: &mut Vec<&'a RawRef>, items: &'a [RawItem]) -> Resul
 
 /// Adds the references of conditions.
 fn push_cond_refs<'a>(refs: &mut Vec<&'a RawRef>, conds: &'a [RawCond]) -> Result<(), OutOfMemory>
-    ensures { OnOk result (map (λ r. r.now) refs.new.items ≡ map (λ r. r.now) refs.old.items ++ flat_map names.cond_refs conds.now) }
+    ensures { OnOk result (map (λ r. r.now) refs.new.items ≡ map (λ r. r.now) refs.old.items
+        ++ flat_map names.cond_refs conds.now) }
 {
     for cond in conds {
         match cond {
@@ -170,7 +173,8 @@ fn push_group_refs<'a>(refs: &mut Vec<&'a RawRef>, groups: &'a [RawRef]) -> Resu
 
 /// Adds the references of ORDER BY.
 fn push_key_refs<'a>(refs: &mut Vec<&'a RawRef>, order: &'a [RawKey]) -> Result<(), OutOfMemory>
-    ensures { OnOk result (map (λ r. r.now) refs.new.items ≡ map (λ r. r.now) refs.old.items ++ map (λ key. key.at) order.now) }
+    ensures { OnOk result (map (λ r. r.now) refs.new.items ≡ map (λ r. r.now) refs.old.items
+        ++ map (λ key. key.at) order.now) }
 {
     for key in order {
         refs.push(&key.at)?;

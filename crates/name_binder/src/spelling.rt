@@ -1,6 +1,8 @@
-//! How a reference and an item are shown in a refusal: as they were written, each name in canonical spelling.
+//! How a reference and an item are shown in a refusal: as they were written, each name in canonical
+//! spelling.
 //!
-//! `ref_shown` and `item_shown` are the ways in; a name alone is shown by `canonical_name` of row_values.
+//! `ref_shown` and `item_shown` are the ways in; a name alone is shown by `canonical_name` of
+//! row_values.
 ghost use Rattle.std.specs.Prelude.{◌≡◌, ◌++◌, IfOk, OnOk, codes, string_bytes};
 ghost use Rattle.name_binder.specs.Spelling as spelled;
 
@@ -22,7 +24,8 @@ fn push_ref(out: &mut String, r: &RawRef) -> Result<(), OutOfMemory>
 
 /// Adds an aggregate of a reference.
 fn push_call(out: &mut String, call: &str, r: &RawRef) -> Result<(), OutOfMemory>
-    ensures { OnOk result (string_bytes out.new ≡ string_bytes out.old ++ call.now ++ spelled.ref_text r.now ++ codes ")") }
+    ensures { OnOk result (string_bytes out.new ≡ string_bytes out.old ++ call.now ++ spelled.ref_text r.now
+        ++ codes ")") }
 {
     out.push_str(call)?;
     push_ref(out, r)?;

@@ -1,4 +1,5 @@
-//! Statements over three tables: what they are bound to, and how each refusal stands against the later ones.
+//! Statements over three tables: what they are bound to, and how each refusal stands against the
+//! later ones.
 use super::*;
 use row_values::{
     ColRef, Column, Item, Kind, Operand, OutOfMemory, Query, Schema, Test, Value, Words,
@@ -7,7 +8,8 @@ use sql_parser::{Select, parse};
 use std::alloc::Global;
 use std::test::Fail;
 
-/// Three tables in memory: `t` of two numbers and a text, `u` of a number and a text, `order` of two numbers.
+/// Three tables in memory: `t` of two numbers and a text, `u` of a number and a text, `order` of
+/// two numbers.
 #[derive(Drop)]
 struct Tables {
     t: Schema,
@@ -18,7 +20,8 @@ struct Tables {
 impl Schemas for Tables {
     ghost use Rattle.std.specs.Prelude.{◌∷◌, [], codes};
 
-    ghost tables = { λ s. record { name = codes "t"; schema = s.t } ∷ record { name = codes "u"; schema = s.u } ∷ record { name = codes "order"; schema = s.order } ∷ [] };
+    ghost tables = { λ s. record { name = codes "t"; schema = s.t } ∷ record { name = codes "u"; schema = s.u }
+        ∷ record { name = codes "order"; schema = s.order } ∷ [] };
 
     fn schema(&self, table: &str) -> Option<&Schema> {
         if "t" == table {

@@ -1,5 +1,6 @@
 -- The rows that a scan gives are the kept combinations.
-use Rattle.std.proofs.Common.{ℕ, ◌≡◌, ◌+◌, ◌++◌, Bool, List, [], ◌∷◌, length, map, cond, ap, sym, ◌∙◌, refl, add-one, get_or}
+use Rattle.std.proofs.Common.{ℕ, ◌≡◌, ◌+◌, ◌++◌, Bool, List, [], ◌∷◌, length, map, cond, ap, sym, ◌∙◌, refl, add-one}
+use Rattle.std.proofs.Common.{get_or}
 use Rattle.std.specs.Prelude.{filter}
 use Rattle.std.proofs.lemmas.List.Elements.{filter-append, filter_agree}
 use Rattle.row_values.specs.Statements.{Statement, IsSoundQuery}

@@ -1,6 +1,7 @@
 //! Operators that give the kept combinations of a statement, each once.
 //!
-//! Each operator is a file; each is proved against the kept combinations of the statement's meaning. For now a
+//! Each operator is a file; each is proved against the kept combinations of the statement's
+//! meaning. For now a
 //! statement of one place is scanned: `scan`.
 #![tactic(auto)]
 

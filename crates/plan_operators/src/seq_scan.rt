@@ -1,6 +1,7 @@
 //! The sequential scan: each row of a place is tested against the predicates on it.
 //!
-//! The operands are looked up once, before the first row; a column of whole numbers is read from its packed list. The way
+//! The operands are looked up once, before the first row; a column of whole numbers is read from
+//! its packed list. The way
 //! in is `scan`.
 ghost use Rattle.std.specs.Prelude.{◌≡◌, ◌∷◌, [], IfOk, length, map, filter};
 ghost use Rattle.row_values.specs.RowNumbers.{row_numbers};
@@ -20,7 +21,8 @@ fn passing_rows(
     args: &[Value],
     ready: &[Ready],
 ) -> Result<Vec<u32>, OutOfMemory>
-    ensures { IfOk result (λ rows. rows.items ≡ filter (all_hold args.now table.now ready.now) (row_numbers (length table.now.rows))) }
+    ensures { IfOk result (λ rows. rows.items
+        ≡ filter (all_hold args.now table.now ready.now) (row_numbers (length table.now.rows))) }
 {
     let mut rows = Vec::new(alloc);
     for row in 0..table.len() as u32 {

@@ -1,5 +1,6 @@
 -- Facts on bits and small sets of places.
-use Rattle.std.proofs.Common.{ℕ, zero, suc, ◌≡◌, ◌≤◌, ◌<◌, ◌+◌, ◌*◌, ◌^◌, ◌/◌, ◌%◌, ◌==◌, ◌&&◌, ◌||◌, max, Bool, true, false, ap, sym, ◌∙◌, refl, arith, true≢false, ◌⊎◌, inl, inr, subst, bit_and}
+use Rattle.std.proofs.Common.{ℕ, zero, suc, ◌≡◌, ◌≤◌, ◌<◌, ◌+◌, ◌*◌, ◌^◌, ◌/◌, ◌%◌, ◌==◌, ◌&&◌, ◌||◌, max, Bool, true}
+use Rattle.std.proofs.Common.{false, ap, sym, ◌∙◌, refl, arith, true≢false, ◌⊎◌, inl, inr, subst, bit_and}
 use Rattle.std.proofs.Math.Nat.{div-eq_of_lt, pow-le-pow_right}
 use Rattle.std.proofs.Math.Pow.{pow-lt}
 use Rattle.std.proofs.lemmas.Bool.Decides.{nat_tests}
@@ -23,7 +24,8 @@ all_pass (suc n) test = test n && all_pass n test
 same_or_less : (k n : ℕ) → k < suc n → (k ≡ n) ⊎ (k < n)
 same_or_less k n h = grind (arith, cases_lt)
 
-at_each_by : (n : ℕ) (test : ℕ → Bool) (k : ℕ) → test n ≡ true → (k < n → test k ≡ true) → (k ≡ n) ⊎ (k < n) → test k ≡ true
+at_each_by : (n : ℕ) (test : ℕ → Bool) (k : ℕ) → test n ≡ true → (k < n → test k ≡ true) → (k ≡ n) ⊎ (k < n)
+    → test k ≡ true
 at_each_by n test k a b (inl e) = rw e a
 at_each_by n test k a b (inr less) = b less
 
@@ -39,9 +41,11 @@ or_right true c e h = absurd (true≢false e)
 or_right false c e h = h
 
 -- two sets that are apart stay below the number of sets together
-pub both_below : (left right count : ℕ) → are_apart left right ≡ true → left < 2 ^ count → right < 2 ^ count → left + right < 2 ^ count
+pub both_below : (left right count : ℕ) → are_apart left right ≡ true → left < 2 ^ count → right < 2 ^ count
+    → left + right < 2 ^ count
 both_below left right count apart less few =
-    subst (λ set. set < 2 ^ count) (or_disjoint left right (eqb-true (bit_and left right) 0 apart)) (or_lt count left right less few)
+    subst (λ set. set < 2 ^ count) (or_disjoint left right (eqb-true (bit_and left right) 0 apart))
+    (or_lt count left right less few)
 
 -- One place.
 
@@ -63,7 +67,8 @@ one_small place few = pow-lt few
 
 -- one more place of five keeps a set small
 pub with_one_small : (set place : ℕ) → set < 32 → place < 5 → has set place ≡ false → set + one place < 32
-with_one_small set place small few absent = both_below set (one place) 5 (apart_from_one set place absent) small (one_small place few)
+with_one_small set place small few absent =
+    both_below set (one place) 5 (apart_from_one set place absent) small (one_small place few)
 
 -- Two sets.
 
@@ -76,7 +81,9 @@ either_bit (suc (suc a)) b h k = absurd (omega arith)
 either_bit a (suc (suc b)) h k = absurd (omega arith)
 
 -- the sum of two sets that are apart has the places of both
-pub has_union : (left right place : ℕ) → are_apart left right ≡ true → has (left + right) place ≡ (has left place || has right place)
+pub has_union : (left right place : ℕ) → are_apart left right ≡ true → has (left + right) place
+    ≡ (has left place || has right place)
 has_union left right place apart =
-    ap (λ set. has set place) (sym (or_disjoint left right (eqb-true (bit_and left right) 0 apart))) ∙ ap (λ bit. bit == 1) (bit_at_or left right place)
+    ap (λ set. has set place) (sym (or_disjoint left right (eqb-true (bit_and left right) 0 apart)))
+    ∙ ap (λ bit. bit == 1) (bit_at_or left right place)
     ∙ either_bit (left / 2 ^ place % 2) (right / 2 ^ place % 2) (bit_at-lt left place) (bit_at-lt right place)

@@ -6,7 +6,8 @@ use Rattle.plan_trees.specs.declared.plans.Access.{Access}
 use Rattle.plan_trees.specs.declared.plans.Access.TheVariants.{Seq, Range, Full}
 use Rattle.plan_trees.specs.declared.plans.StepKind.{StepKind}
 use Rattle.plan_trees.specs.declared.plans.StepKind.TheVariants.{Loop, Probe}
-use Rattle.plan_trees.specs.Trees.{Tree, Base, Join, HashJoin, Sort, TopTree, Rows, SortedGroups, HashGroups, same_access, same_step, same_tree, same_top}
+use Rattle.plan_trees.specs.Trees.{Tree, Base, Join, HashJoin, Sort, TopTree, Rows, SortedGroups, HashGroups}
+use Rattle.plan_trees.specs.Trees.{same_access, same_step, same_tree, same_top}
 
 -- The same are equal.
 
@@ -68,7 +69,9 @@ number_itself n = eq-eqb n n refl
 
 access_itself : (a : Access) → same_access a a ≡ true
 access_itself (Seq t) = number_itself t
-access_itself (Range t c j) = and_from (t == t && c == c) (j == j) (and_from (t == t) (c == c) (number_itself t) (number_itself c)) (number_itself j)
+access_itself (Range t c j) =
+    and_from (t == t && c == c) (j == j) (and_from (t == t) (c == c) (number_itself t) (number_itself c))
+    (number_itself j)
 access_itself (Full t c) = and_from (t == t) (c == c) (number_itself t) (number_itself c)
 
 step_itself : (a : StepKind) → same_step a a ≡ true
@@ -78,7 +81,9 @@ step_itself (Probe t e) = and_from (t == t) (e == e) (number_itself t) (number_i
 tree_itself : (a : Tree) → same_tree a a ≡ true
 tree_itself (Base a) = access_itself a
 tree_itself (Join p x) = and_from (same_step x x) (same_tree p p) (step_itself x) (tree_itself p)
-tree_itself (HashJoin p r e) = and_from (e == e && same_tree p p) (same_tree r r) (and_from (e == e) (same_tree p p) (number_itself e) (tree_itself p)) (tree_itself r)
+tree_itself (HashJoin p r e) =
+    and_from (e == e && same_tree p p) (same_tree r r) (and_from (e == e) (same_tree p p) (number_itself e)
+    (tree_itself p)) (tree_itself r)
 tree_itself (Sort p) = tree_itself p
 
 top_itself : (a : TopTree) → same_top a a ≡ true
@@ -99,4 +104,5 @@ told_by false false to from = refl
 
 -- what tells whether two trees are equal is the test
 pub same_told : (found : Bool) (a b : Tree) → IsTrue found ↔ (a ≡ b) → found ≡ same_tree a b
-same_told found a b h = told_by found (same_tree a b) (λ e. (same_trees a b).1 (h.0 e)) (λ e. h.1 ((same_trees a b).0 e))
+same_told found a b h =
+    told_by found (same_tree a b) (λ e. (same_trees a b).1 (h.0 e)) (λ e. h.1 ((same_trees a b).0 e))

@@ -1,5 +1,6 @@
 -- The plan space: which access paths, steps, plans and tops are valid for a statement with these indexes.
-use Rattle.std.specs.Prelude.{ℕ, ◌≡◌, ◌<◌, ◌==◌, Bool, true, false, not, ◌&&◌, ◌||◌, IsTrue, List, [], ◌∷◌, length, map, Some, slice_get, IsSomeAnd, if◌then◌else◌}
+use Rattle.std.specs.Prelude.{ℕ, ◌≡◌, ◌<◌, ◌==◌, Bool, true, false, not, ◌&&◌, ◌||◌, IsTrue, List, [], ◌∷◌, length, map}
+use Rattle.std.specs.Prelude.{Some, slice_get, IsSomeAnd, if◌then◌else◌}
 use Rattle.std.specs.Option.{option_map}
 use Rattle.row_values.specs.Statements.{Statement, IsColumn}
 use Rattle.row_values.specs.declared.statement.ColRef.{ColRef}
@@ -11,7 +12,8 @@ use Rattle.plan_trees.specs.declared.plans.StepKind.{StepKind}
 use Rattle.plan_trees.specs.declared.plans.StepKind.TheVariants.{Loop, Probe}
 use Rattle.plan_trees.specs.Indexes.{has_index}
 use Rattle.plan_trees.specs.PlaceSets.{has, all_below, are_apart}
-use Rattle.plan_trees.specs.Trees.{Tree, Base, Join, HashJoin, Sort, TopTree, Rows, SortedGroups, HashGroups, place_of, places_of, plan_below}
+use Rattle.plan_trees.specs.Trees.{Tree, Base, Join, HashJoin, Sort, TopTree, Rows, SortedGroups, HashGroups, place_of}
+use Rattle.plan_trees.specs.Trees.{places_of, plan_below}
 
 abbrev pub column_of : ℕ → ℕ → ColRef
 column_of place column = record { place = place; column = column }

@@ -1,5 +1,6 @@
 -- How a spelling is read from its front, piece by piece. A reading is a value and the text behind it, or nothing.
-use Rattle.std.specs.Prelude.{ℕ, zero, suc, ◌+◌, ◌≡◌, ◌==◌, List, [], ◌∷◌, codes, map, length, Result, Ok, Err, Option, Some, None, if◌then◌else◌}
+use Rattle.std.specs.Prelude.{ℕ, zero, suc, ◌+◌, ◌≡◌, ◌==◌, List, [], ◌∷◌, codes, map, length, Result, Ok, Err, Option}
+use Rattle.std.specs.Prelude.{Some, None, if◌then◌else◌}
 use Rattle.row_values.specs.Names.{canonical_name}
 use Rattle.row_values.specs.Statements.{Statement}
 use Rattle.row_values.specs.declared.columns.Column.{Column}
@@ -141,7 +142,8 @@ unfoldable pub plan_at : ℕ → Statement → List ℕ → Option (Tree × List
 plan_at zero q text = None
 plan_at (suc room) q text =
     chosen (after (codes "hash(") text)
-    (λ rest. plan_at room q rest >>= λ outer. after_byte 44 outer.1 >>= λ rest. plan_at room q rest >>= λ inner. joined_at q outer.0 inner.0 inner.1)
+    (λ rest. plan_at room q rest >>= λ outer. after_byte 44 outer.1 >>= λ rest. plan_at room q rest >>= λ inner.
+    joined_at q outer.0 inner.0 inner.1)
     (chosen (form_at text) (λ f. plan_at room q f.1 >>= λ outer. closed_at q f.0 outer.0 outer.1) (base_at q text))
 
 -- Tops.

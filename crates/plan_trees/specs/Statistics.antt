@@ -1,5 +1,6 @@
 -- The numbers that plans are costed by, and when they fit a statement.
-use Rattle.std.specs.Prelude.{ℕ, ◌≡◌, ◌<◌, ◌≤◌, ◌+◌, ◌*◌, ◌^◌, ◌==◌, ◌&&◌, max, List, [], ◌∷◌, length, map, sum_by, All, take, drop, slice_get, slice_index, slice_index_or, Some, if◌then◌else◌}
+use Rattle.std.specs.Prelude.{ℕ, ◌≡◌, ◌<◌, ◌≤◌, ◌+◌, ◌*◌, ◌^◌, ◌==◌, ◌&&◌, max, List, [], ◌∷◌, length, map, sum_by, All}
+use Rattle.std.specs.Prelude.{take, drop, slice_get, slice_index, slice_index_or, Some, if◌then◌else◌}
 use Rattle.row_values.specs.Statements.{Statement, is_parameterised, selectivity_count}
 use Rattle.row_values.specs.declared.statement.Place.{Place}
 use Rattle.row_values.specs.declared.statement.Pred.{Pred}
@@ -83,4 +84,12 @@ pub record IsSoundVector (q : Statement) (s : Statistics) (vector : List ℕ) : 
 
 abbrev pub statistics_of : List Place → List ℕ → List ℕ → List ℕ → List ℕ → List ℕ → List ℕ → Weights → Statistics
 statistics_of places rows fixed matching distinct fans indexed weights =
-    record { rows = rows; fixed = fixed; matching = matching; distinct = distinct; fans = by_place places fans; indexed = indexed; weights = weights }
+    record {
+      rows = rows;
+      fixed = fixed;
+      matching = matching;
+      distinct = distinct;
+      fans = by_place places fans;
+      indexed = indexed;
+      weights = weights;
+    }

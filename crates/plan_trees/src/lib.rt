@@ -1,6 +1,7 @@
 //! Plans: access paths, join trees and tops, when they are valid, and how they are spelled.
 //!
-//! A plan is a tree that shares its parts; contracts speak of the tree that it stands for, without its pointers
+//! A plan is a tree that shares its parts; contracts speak of the tree that it stands for, without
+//! its pointers
 //! (`tree` of specs/Trees). It knows no cost and no way to run a plan.
 #![tactic(auto)]
 

@@ -1,9 +1,11 @@
 //! The lists of all valid accesses of a place, and of all valid steps that take a place into a set.
 //!
-//! Whoever looks at all plans walks these lists: nothing valid is missing, and nothing else is in them.
+//! Whoever looks at all plans walks these lists: nothing valid is missing, and nothing else is in
+//! them.
 ghost use Rattle.std.specs.Prelude.{ℕ, ◌≡◌, ◌<◌, IfOk, MatchOption, length};
 ghost use Rattle.row_values.specs.Statements.{IsColumn};
-ghost use Rattle.plan_trees.specs.Lists.{GainsAll, IsAccessOf, IsFullBefore, IsListOf, IsLoopAmong, IsProbeBefore, IsRangeBefore, IsRangeBy, IsStepInto};
+ghost use Rattle.plan_trees.specs.Lists.{GainsAll, IsAccessOf, IsFullBefore, IsListOf, IsLoopAmong, IsProbeBefore};
+ghost use Rattle.plan_trees.specs.Lists.{IsRangeBefore, IsRangeBy, IsStepInto};
 ghost use Rattle.plan_trees.specs.PlanSpace.{IsValidHashJoin, column_of};
 ghost use Rattle.plan_trees.specs.Trees.{place_entering, place_of};
 
@@ -161,7 +163,8 @@ fn push_probes(
     Ok(())
 }
 
-/// All valid steps over the set that take in the place: nested loops, and look-ups by an edge to the place.
+/// All valid steps over the set that take in the place: nested loops, and look-ups by an edge to
+/// the place.
 pub fn steps(
     alloc: Global,
     q: &Query,

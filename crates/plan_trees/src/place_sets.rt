@@ -1,6 +1,7 @@
 //! Sets of places: a byte in which bit t stands for place t.
 //!
-//! This is the one module that shifts and masks. A statement has at most five places, so a set is below 32.
+//! This is the one module that shifts and masks. A statement has at most five places, so a set is
+//! below 32.
 ghost use Rattle.std.specs.Prelude.{◌≡◌, ◌<◌, ◌≤◌, ◌+◌, IsTrue, false};
 ghost use Rattle.plan_trees.specs.PlaceSets.{all_below, are_apart as apart_sets, has, one};
 

@@ -1,14 +1,17 @@
 //! Plans: how a statement's places are read, joined and finished.
 //!
-//! Parts are shared by `Rc`, so that plans of many places can stand on one plan of fewer. Two plans are the same
+//! Parts are shared by `Rc`, so that plans of many places can stand on one plan of fewer. Two plans
+//! are the same
 //! where they stand for the same tree, wherever they lie: `same` is the test.
 ghost use Rattle.std.specs.Prelude.{◌≡◌, ◌↔◌, IsTrue};
 ghost use Rattle.plan_trees.specs.Trees.{place_entering, place_of, same_top, top_tree, tree};
 
 use std::rc::Rc;
 
-/// The way into one table: `Seq` reads all rows, `Range` the rows that an index finds for a predicate, and
-/// `Full` all rows in the order of an index. The numbers are the place, then the column, then the predicate.
+/// The way into one table: `Seq` reads all rows, `Range` the rows that an index finds for a
+/// predicate, and
+/// `Full` all rows in the order of an index. The numbers are the place, then the column, then the
+/// predicate.
 #[derive(Clone, Copy, Debug, PartialEq, Eq)]
 pub enum Access {
     Seq(u8),
@@ -16,7 +19,8 @@ pub enum Access {
     Full(u8, u8),
 }
 
-/// How a plan takes in one more place: for each row so far by an access (`Loop`), or for each row so far by an
+/// How a plan takes in one more place: for each row so far by an access (`Loop`), or for each row
+/// so far by an
 /// index on the edge's column (`Probe`: place and edge).
 #[derive(Clone, Copy, Debug, PartialEq, Eq)]
 pub enum StepKind {
@@ -24,7 +28,8 @@ pub enum StepKind {
     Probe(u8, u8),
 }
 
-/// A tree of joins. The first plan inside is the outer side. A hash join has an inner plan too, and an edge
+/// A tree of joins. The first plan inside is the outer side. A hash join has an inner plan too, and
+/// an edge
 /// between the two.
 #[derive(Debug, Drop)]
 pub enum Plan {
@@ -35,7 +40,8 @@ pub enum Plan {
     Sort(Rc<Plan>),
 }
 
-/// A plan and how its rows become the result: as they are, grouped as they come, or grouped by a hash table.
+/// A plan and how its rows become the result: as they are, grouped as they come, or grouped by a
+/// hash table.
 #[derive(Debug, Drop)]
 pub enum Top {
     Rows(Rc<Plan>),

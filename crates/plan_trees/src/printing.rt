@@ -3,7 +3,8 @@
 //! `print_plan` is the one way in; `top_text` of specs/Spelling says what it writes.
 ghost use Rattle.std.specs.Prelude.{◌≡◌, ◌++◌, ℕ, List, IfOk, OnOk, codes, string_bytes};
 ghost use Rattle.plan_trees.specs.PlanSpace.{IsValidTop};
-ghost use Rattle.plan_trees.specs.Spelling.{IsPlanText, access_text, alias_of, column_text, columns_of, name_of, number_text, place_text, plan_text, step_text, top_text};
+ghost use Rattle.plan_trees.specs.Spelling.{IsPlanText, access_text, alias_of, column_text, columns_of, name_of};
+ghost use Rattle.plan_trees.specs.Spelling.{number_text, place_text, plan_text, step_text, top_text};
 ghost use Rattle.plan_trees.specs.Trees.{top_tree, tree};
 
 use crate::plans::{Access, Plan, StepKind, Top};

@@ -1,7 +1,9 @@
 //! Reading the spelling of a plan.
 //!
-//! Each piece is read from the front of the text, and what stands behind it is handed on. Names and numbers are
-//! read by comparing the front with what the statement has, so reading takes no memory but for the plan. At most
+//! Each piece is read from the front of the text, and what stands behind it is handed on. Names and
+//! numbers are
+//! read by comparing the front with what the statement has, so reading takes no memory but for the
+//! plan. At most
 //! sixteen plans are nested, which bounds the depth of the recursion.
 //! `read_plan` is the one way in.
 ghost use Rattle.std.specs.Prelude.{◌≡◌, ◌<◌, ◌≤◌, ◌+◌, ◌^◌, ◌≢◌, ℕ, List, Err, IfOk, length};
@@ -384,7 +386,8 @@ pub fn read_plan(alloc: Global, q: &Query, text: &str) -> Result<Rc<Top>, PlanFa
     ensures same { (top : TopTree) → IsPlanText q.now text.now top → IfOk result (λ p. top_tree p.value ≡ top) }
     ensures none { (top : TopTree) → IsPlanText q.now text.now top → result ≢ Err PlanFault.NotAPlan }
 {
-    // That names differ is what makes a spelling mean one plan; the statement tells it with its places.
+    // That names differ is what makes a spelling mean one plan; the statement tells it with its
+    // places.
     let _ = q.places();
     let top = read_top(alloc, q, text.as_bytes())?;
     match Rc::new(alloc, top) {

@@ -1,6 +1,7 @@
 //! Selectivity vectors: for each parameterised predicate, in text order, how many rows meet it.
 //!
-//! The numbers are counts of at least 1, not fractions. That a vector fits a statement is `IsSoundVector`.
+//! The numbers are counts of at least 1, not fractions. That a vector fits a statement is
+//! `IsSoundVector`.
 ghost use Rattle.std.specs.Prelude.{◌≡◌, ◌≤◌, ◌↔◌, IfSome, IsSome, length};
 
 use row_values::{OutOfMemory, SELECTIVITY_LIMIT};

@@ -1,8 +1,10 @@
 //! What a statement's tables are like: indexes, counts and the weights of the cost model.
 //!
-//! Each type keeps what it is given. That the numbers fit a statement is the record `IsSoundStats`, which callers
+//! Each type keeps what it is given. That the numbers fit a statement is the record `IsSoundStats`,
+//! which callers
 //! require and nobody tests.
-ghost use Rattle.std.specs.Prelude.{◌≡◌, ◌<◌, ◌≤◌, ◌↔◌, [], IfOk, IfSome, IsSome, length, map, slice_index, slice_index_or};
+ghost use Rattle.std.specs.Prelude.{◌≡◌, ◌<◌, ◌≤◌, ◌↔◌, [], IfOk, IfSome, IsSome, length, map, slice_index};
+ghost use Rattle.std.specs.Prelude.{slice_index_or};
 ghost use Rattle.plan_trees.specs.Indexes.{has_index};
 ghost use Rattle.plan_trees.specs.Statistics.{IsSoundStats, by_place, column_count, fan_at, statistics_of};
 
@@ -11,7 +13,8 @@ use row_values::{OutOfMemory, PLACE_LIMIT, Place, Query};
 use std::alloc::Global;
 use std::marker::Model;
 
-/// Which columns of which places have an index: at most five masks held in place, one for each place, whose bit
+/// Which columns of which places have an index: at most five masks held in place, one for each
+/// place, whose bit
 /// c stands for column c. Contracts see the list of masks.
 #[derive(Debug, Drop)]
 pub struct Indexed {
@@ -66,7 +69,8 @@ impl Indexed {
         })
     }
 
-    /// Whether the column of the place has an index; false for a place without a mask and for a column past 63.
+    /// Whether the column of the place has an index; false for a place without a mask and for a
+    /// column past 63.
     pub fn has(&self, place: u8, column: u8) -> bool
         ensures { result ≡ has_index self.now place column }
     {
@@ -145,7 +149,8 @@ fn kept_by_place(
 }
 
 impl Stats {
-    /// These numbers: one for each place, for each place, for each predicate, for each edge, and for each place
+    /// These numbers: one for each place, for each place, for each predicate, for each edge, and
+    /// for each place
     /// and column, place by place. They must be sound for the statement.
     pub fn of(
         alloc: Global,

@@ -1,5 +1,6 @@
 //! Plans of `SELECT a.id FROM t a, t "order id", t c WHERE a.day < ? AND "order id".day >= 5 AND
-//! a.id = "order id".id AND "order id".id = c.id ORDER BY a.day`, where t has the columns id, "select" and day.
+//! a.id = "order id".id AND "order id".id = c.id ORDER BY a.day`, where t has the columns id,
+//! "select" and day.
 use crate::{Access, Indexed, Plan, PlanFault, Top, print_plan, read_plan, same, valid};
 use row_values::{
     ColRef, Column, Edge, Item, Kind, Operand, OrderKey, OutOfMemory, Place, Pred, Query, Schema,

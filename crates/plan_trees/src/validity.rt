@@ -1,13 +1,19 @@
 //! Which plans are valid for a statement, and which give the wanted order.
 //!
-//! A valid plan reads each place once, by an access that there is, and joins as its edges say; a sort stands only
+//! A valid plan reads each place once, by an access that there is, and joins as its edges say; a
+//! sort stands only
 //! where the order isn't there yet. `valid` decides it. No call takes memory.
-ghost use Rattle.std.specs.Prelude.{◌≡◌, ◌<◌, ◌≤◌, ◌+◌, ◌↔◌, IsTrue, MatchOption, IsSomeAnd, All, Some, slice_get, length, map};
+ghost use Rattle.std.specs.Prelude.{◌≡◌, ◌<◌, ◌≤◌, ◌+◌, ◌↔◌, IsTrue, MatchOption, IsSomeAnd, All, Some, slice_get};
+ghost use Rattle.std.specs.Prelude.{length, map};
 ghost use Rattle.std.specs.Option.{option_map};
 ghost use Rattle.plan_trees.specs.Indexes.{has_index};
 ghost use Rattle.row_values.specs.Statements.{IsColumn};
 ghost use Rattle.plan_trees.specs.PlaceSets.{all_below, one};
-ghost use Rattle.plan_trees.specs.PlanSpace.{IsValidAccess, IsValidHashJoin, IsValidStep, IsValidPlan, IsValidTop, SuitsStatement, ascending, column_of, column_in, connects, joins_to, has_all_keys, is_grouped, is_only_key, is_sorted_access as gives_wanted_order, is_sorted_plan, wanted_order, wants_order};
+ghost use Rattle.plan_trees.specs.PlanSpace.{IsValidAccess, IsValidHashJoin, IsValidStep, IsValidPlan, IsValidTop};
+ghost use Rattle.plan_trees.specs.PlanSpace.{SuitsStatement, ascending, column_of, column_in, connects, joins_to};
+ghost use Rattle.plan_trees.specs.PlanSpace.{has_all_keys, is_grouped, is_only_key};
+ghost use Rattle.plan_trees.specs.PlanSpace.{is_sorted_access as gives_wanted_order, is_sorted_plan, wanted_order};
+ghost use Rattle.plan_trees.specs.PlanSpace.{wants_order};
 ghost use Rattle.plan_trees.specs.Trees.{place_entering, places_of, plan_below, top_tree, tree};
 
 use crate::place_sets::{all_places, are_apart, has_place, one_place, with_place, with_places};
@@ -83,7 +89,8 @@ pub fn edge_column(place: u8, edge: Edge) -> u8
     }
 }
 
-/// Whether the edge is there, joins a place of the set to this place, and its column of this place has an index.
+/// Whether the edge is there, joins a place of the set to this place, and its column of this place
+/// has an index.
 fn is_probed(q: &Query, ix: &Indexed, set: u8, place: u8, edge: u8) -> bool
     ensures { IsTrue result ↔ IsSomeAnd (slice_get q.now.edges edge)
         (λ e. IsTrue (joins_to set place e) × IsTrue (has_index ix.now place (column_in place e))) }

@@ -1,5 +1,6 @@
 -- Escapes piece by piece.
-use Rattle.std.proofs.Common.{ℕ, ◌≡◌, ◌<◌, ◌≤◌, ◌+◌, ◌-◌, ◌++◌, ◌==◌, ◌||◌, Bool, true, false, List, [], ◌∷◌, length, take, drop, get_or, cond, ap, sym, ◌∙◌, refl, arith, add-one, append_assoc, append-nil}
+use Rattle.std.proofs.Common.{ℕ, ◌≡◌, ◌<◌, ◌≤◌, ◌+◌, ◌-◌, ◌++◌, ◌==◌, ◌||◌, Bool, true, false, List, [], ◌∷◌, length}
+use Rattle.std.proofs.Common.{take, drop, get_or, cond, ap, sym, ◌∙◌, refl, arith, add-one, append_assoc, append-nil}
 use Rattle.std.specs.Prelude.{flat_map, nat_lt, ◌/◌, ◌%◌}
 use Rattle.std.specs.Fmt.{digit_glyph}
 use Rattle.std.specs.Str.{IsUtf8, IsCharBoundary}
@@ -17,7 +18,8 @@ pub as_it_is : (byte : ℕ) → needs_escape byte ≡ false → escaped byte ≡
 as_it_is byte h = by_tests (byte == 34) (byte == 92) (nat_lt byte 32) (byte == 127) h
   where
     by_tests : (a b c d : Bool) → (((a || b) || c) || d) ≡ false
-        → cond (a || b) (92 ∷ byte ∷ []) (cond (c || d) (92 ∷ 120 ∷ digit_glyph false (byte / 16) ∷ digit_glyph false (byte % 16) ∷ []) (byte ∷ [])) ≡ byte ∷ []
+        → cond (a || b) (92 ∷ byte ∷ []) (cond (c || d) (92 ∷ 120 ∷ digit_glyph false (byte / 16)
+        ∷ digit_glyph false (byte % 16) ∷ []) (byte ∷ [])) ≡ byte ∷ []
     by_tests false false false false h = refl
     by_tests true b c d h = cc
     by_tests false true c d h = cc
@@ -37,7 +39,8 @@ all_escaped : (words : List ℕ) (i : ℕ) → i < length words
     → flat_map escaped (take (i + 1) words) ≡ flat_map escaped (take i words) ++ escaped (get_or words i 0)
 all_escaped words i h =
     ap (flat_map escaped) (one_more words i h)
-    ∙ (flat_map-append escaped (take i words) (get_or words i 0 ∷ []) ∙ ap (λ (bs : List ℕ). flat_map escaped (take i words) ++ bs) (append-nil (escaped (get_or words i 0))))
+    ∙ (flat_map-append escaped (take i words) (get_or words i 0 ∷ [])
+    ∙ ap (λ (bs : List ℕ). flat_map escaped (take i words) ++ bs) (append-nil (escaped (get_or words i 0))))
 
 -- a byte that needs no escape waits with the others
 pub waits : (words : List ℕ) (i start : ℕ) (text old : List ℕ) → start ≤ i → i < length words
@@ -49,16 +52,19 @@ waits words i start text old b h n e =
     ∙ (sym (append_assoc text (drop start (take i words)) (get_or words i 0 ∷ []))
     ∙ (ap (λ (bs : List ℕ). bs ++ get_or words i 0 ∷ []) e
     ∙ (append_assoc old (flat_map escaped (take i words)) (get_or words i 0 ∷ [])
-    ∙ ap (λ (bs : List ℕ). old ++ bs) (ap (λ (bs : List ℕ). flat_map escaped (take i words) ++ bs) (sym (as_it_is (get_or words i 0) n)) ∙ sym (all_escaped words i h)))))
+    ∙ ap (λ (bs : List ℕ). old ++ bs) (ap (λ (bs : List ℕ). flat_map escaped (take i words)
+    ++ bs) (sym (as_it_is (get_or words i 0) n)) ∙ sym (all_escaped words i h)))))
 
 piece : (words : List ℕ) (i start : ℕ) → start ≤ i → take (i - start) (drop start words) ≡ drop start (take i words)
 piece words i start b =
-    let e : start + (i - start) ≡ i = omega (arith, b) in sym (drop-take start (i - start) words) ∙ ap (λ (n : ℕ). drop start (take n words)) e
+    let e : start + (i - start) ≡ i = omega (arith, b) in sym (drop-take start (i - start) words)
+    ∙ ap (λ (n : ℕ). drop start (take n words)) e
 
 -- the piece is copied, and the byte escaped behind it
 pub copied : (words : List ℕ) (i start : ℕ) (text old : List ℕ) → start ≤ i → i < length words
     → text ++ drop start (take i words) ≡ old ++ flat_map escaped (take i words)
-    → ((text ++ take (i - start) (drop start words)) ++ escaped (get_or words i 0)) ++ drop (i + 1) (take (i + 1) words) ≡ old ++ flat_map escaped (take (i + 1) words)
+    → ((text ++ take (i - start) (drop start words)) ++ escaped (get_or words i 0)) ++ drop (i + 1) (take (i + 1) words)
+    ≡ old ++ flat_map escaped (take (i + 1) words)
 copied words i start text old b h e =
     ap (λ (bs : List ℕ). ((text ++ take (i - start) (drop start words)) ++ escaped (get_or words i 0)) ++ bs)
     (drop_all (i + 1) (take (i + 1) words) (omega (arith, length-take (i + 1) words)))

@@ -15,7 +15,8 @@ first_column [] l at h = absurd (omega (arith, l))
 first_column (place ∷ []) l at h = only_place place at.place at.column h
 first_column (place ∷ (other ∷ places)) l at h = absurd (omega (arith, l))
 
-first_item : (places : List Place) → length places ≡ 1 → (item : Item) → IsItem places item → IsTrue (is_column_item item)
+first_item : (places : List Place) → length places ≡ 1 → (item : Item) → IsItem places item
+    → IsTrue (is_column_item item)
     → IsTrue (is_first_column item)
 first_item places l (Column at) h p = eq-eqb at.place 0 (first_column places l at h)
 first_item places l CountAll h p = p

@@ -15,7 +15,8 @@ use std::alloc::Global;
 /// Adds an item of a row.
 fn push_item(text: &mut String, table: &Table, row: u32, item: &Item) -> Result<(), OutOfMemory>
     requires { IsTrue (is_first_column item.now) }
-    ensures { OnOk result (string_bytes text.new ≡ string_bytes text.old ++ item_text (shown_item (table.now.rows ∷ []) (row ∷ []) ((row ∷ []) ∷ []) item.now)) }
+    ensures { OnOk result (string_bytes text.new
+        ≡ string_bytes text.old ++ item_text (shown_item (table.now.rows ∷ []) (row ∷ []) ((row ∷ []) ∷ []) item.now)) }
 {
     match item {
         Item::Column(at) => push_cell(text, cell_in(table, row as usize, usize::from(at.column))),
@@ -31,7 +32,9 @@ fn push_further(
     items: &[Item],
 ) -> Result<(), OutOfMemory>
     requires { All (λ item. IsTrue (is_first_column item)) items.now }
-    ensures { OnOk result (string_bytes text.new ≡ string_bytes text.old ++ further_items (shown_row (table.now.rows ∷ []) items.now ((row ∷ []) ∷ []) (row ∷ []))) }
+    ensures { OnOk result (string_bytes text.new
+        ≡ string_bytes text.old
+        ++ further_items (shown_row (table.now.rows ∷ []) items.now ((row ∷ []) ∷ []) (row ∷ []))) }
 {
     for item in items {
         text.push(',')?;
@@ -43,7 +46,8 @@ fn push_further(
 /// Adds the items joined by commas.
 fn push_items(text: &mut String, table: &Table, row: u32, items: &[Item]) -> Result<(), OutOfMemory>
     requires { All (λ item. IsTrue (is_first_column item)) items.now }
-    ensures { OnOk result (string_bytes text.new ≡ string_bytes text.old ++ items_text (shown_row (table.now.rows ∷ []) items.now ((row ∷ []) ∷ []) (row ∷ []))) }
+    ensures { OnOk result (string_bytes text.new
+        ≡ string_bytes text.old ++ items_text (shown_row (table.now.rows ∷ []) items.now ((row ∷ []) ∷ []) (row ∷ []))) }
 {
     match items {
         [] => Ok(()),
@@ -58,7 +62,8 @@ fn push_items(text: &mut String, table: &Table, row: u32, items: &[Item]) -> Res
 pub fn row_text(alloc: Global, q: &Query, table: &Table, row: u32) -> Result<Words, OutOfMemory>
     requires place { length q.now.places ≡ 1 }
     requires plain { q.now.groups ≡ [] }
-    ensures { IfOk result (λ text. text ≡ row_line (shown_row (table.now.rows ∷ []) q.now.items ((row ∷ []) ∷ []) (row ∷ []))) }
+    ensures { IfOk result (λ text. text
+        ≡ row_line (shown_row (table.now.rows ∷ []) q.now.items ((row ∷ []) ∷ []) (row ∷ []))) }
 {
     let items = q.items();
     let mut text = String::with_capacity(alloc, LINE_ROOM + ITEM_ROOM * items.len())?;
@@ -67,7 +72,8 @@ pub fn row_text(alloc: Global, q: &Query, table: &Table, row: u32) -> Result<Wor
     Ok(Words::from_string(text))
 }
 
-/// The bytes that a line has room for from the start, and what each item adds; a longer line grows. A result of many
+/// The bytes that a line has room for from the start, and what each item adds; a longer line grows.
+/// A result of many
 /// rows is held as that many texts, so room that isn't used costs time.
 const LINE_ROOM: usize = 8;
 

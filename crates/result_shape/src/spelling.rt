@@ -1,6 +1,7 @@
 //! How a value stands in a row line: a number in decimal, a text between double quotes.
 //!
-//! In a text `"` and `\` have a `\` before them, and control bytes are written `\x` and two hexadecimal digits; what
+//! In a text `"` and `\` have a `\` before them, and control bytes are written `\x` and two
+//! hexadecimal digits; what
 //! needs no escape is copied in one piece. Each function adds at the end of a text that grows.
 ghost use Rattle.std.specs.Prelude.{◌≡◌, ◌<◌, ◌++◌, false, OnOk, IsTrue, string_bytes, option_map};
 ghost use Rattle.std.specs.List.{flat_map};
@@ -83,7 +84,8 @@ fn push_number(text: &mut String, number: i64) -> Result<(), OutOfMemory>
 
 /// Adds a cell as a row line shows it; one that isn't there shows as the empty text.
 pub fn push_cell(text: &mut String, cell: Option<&Value>) -> Result<(), OutOfMemory>
-    ensures { OnOk result (string_bytes text.new ≡ string_bytes text.old ++ item_text (shown_cell (option_map (λ value. value.now) cell.entry))) }
+    ensures { OnOk result (string_bytes text.new
+        ≡ string_bytes text.old ++ item_text (shown_cell (option_map (λ value. value.now) cell.entry))) }
 {
     match cell {
         Some(Value::Int(number)) => push_number(text, *number),

@@ -1,5 +1,6 @@
 -- A test of a packed number is one of its cell.
-use Rattle.std.proofs.Common.{ℕ, ℤ, ◌≡◌, ◌<◌, ◌≤◌, length, zero, suc, List, [], ◌∷◌, get_or, Option, None, Some, ap, sym, ◌∙◌, refl}
+use Rattle.std.proofs.Common.{ℕ, ℤ, ◌≡◌, ◌<◌, ◌≤◌, length, zero, suc, List, [], ◌∷◌, get_or, Option, None, Some, ap}
+use Rattle.std.proofs.Common.{sym, ◌∙◌, refl}
 use Rattle.std.specs.Prelude.{false, option_map, slice_get}
 use Rattle.std.specs.Option.{option_map_or}
 use Rattle.std.proofs.lemmas.Option.{slice_get-get_or, slice_get_past}
@@ -23,12 +24,14 @@ number_or_none test (Some number) = refl
 
 pub packed_meets : (test : NumberTest) (table : TableValue) (column : ℕ) (numbers : List ℤ)
     → AreNumbers table column numbers → (row : ℕ)
-    → option_map_or (number_holds test) (slice_get numbers row) false ≡ is_number_in test (slice_get (get_or table.rows row []) column)
+    → option_map_or (number_holds test) (slice_get numbers row) false
+    ≡ is_number_in test (slice_get (get_or table.rows row []) column)
 packed_meets test table column numbers packed row =
     number_or_none test (slice_get numbers row)
     ∙ ap (is_number_in test) (sym (packed.cells row) ∙ cell_of_row table.rows row column)
 
-pub number_found : (test : NumberTest) (numbers : List ℤ) (row : ℕ) (number d : ℤ) → row < length numbers → number ≡ get_or numbers row d
+pub number_found : (test : NumberTest) (numbers : List ℤ) (row : ℕ) (number d : ℤ) → row < length numbers
+    → number ≡ get_or numbers row d
     → number_holds test number ≡ option_map_or (number_holds test) (slice_get numbers row) false
 number_found test numbers row number d h e = rw (slice_get-get_or numbers row d h, e) refl
 

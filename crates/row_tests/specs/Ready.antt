@@ -1,5 +1,6 @@
 -- What a ready predicate asks of a row.
-use Rattle.std.specs.Prelude.{ℕ, ℤ, List, [], ◌∷◌, slice_get, slice_index_or, Bool, true, false, ◌&&◌, Option, Some, None}
+use Rattle.std.specs.Prelude.{ℕ, ℤ, List, [], ◌∷◌, slice_get, slice_index_or, Bool, true, false, ◌&&◌, Option, Some}
+use Rattle.std.specs.Prelude.{None}
 use Rattle.std.specs.Option.{option_map_or}
 use Rattle.std.specs.Ordering.{int_cmp, is_lt, is_le, is_gt, is_ge, is_eq}
 use Rattle.row_values.specs.declared.values.Value.{Value}
@@ -28,7 +29,8 @@ is_number None = false
 is_number (Some (Int number)) = true
 is_number (Some (Text text)) = false
 
--- whether a test is against whole numbers: each of its operands stands for one, and it is no IN, which is tested operand by operand
+-- whether a test is against whole numbers: each of its operands stands for one, and it is no IN, which is tested
+-- operand by operand
 abbrev pub has_numbers : List Value → Test → Bool
 has_numbers args (test.Lt a) = is_number (operand_value args a)
 has_numbers args (test.Le a) = is_number (operand_value args a)

@@ -5,7 +5,8 @@ ghost use Rattle.std.specs.Option.{option_map};
 use csv_tables::Table;
 use row_values::Value;
 
-/// The cell in this row and column, both counted from 0; none where the table has no such row or column.
+/// The cell in this row and column, both counted from 0; none where the table has no such row or
+/// column.
 #[inline]
 #[tactic(auto, using(crate::proofs::NoCell::no_row, crate::proofs::NoCell::no_column))]
 pub fn cell_in(table: &Table, row: usize, column: usize) -> Option<&Value>

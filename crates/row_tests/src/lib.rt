@@ -1,7 +1,9 @@
 //! Tests of rows: predicates with their operands looked up once, and the cells that they read.
 //!
-//! A row is tested without memory. A column of whole numbers is read from its packed list and its numbers are compared
-//! as numbers; any other column is tested cell by cell. A cell, an argument or a column that isn't there meets nothing.
+//! A row is tested without memory. A column of whole numbers is read from its packed list and its
+//! numbers are compared
+//! as numbers; any other column is tested cell by cell. A cell, an argument or a column that isn't
+//! there meets nothing.
 //! `ready_preds` gives the tests of a place, `passes` tests a row by them.
 #![tactic(auto)]
 

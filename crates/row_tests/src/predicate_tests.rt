@@ -1,6 +1,7 @@
 //! Predicates with their operands looked up once, ready for many rows of a table.
 //!
-//! A test of whole numbers against whole numbers is kept as numbers beside the packed list of its column, so that no
+//! A test of whole numbers against whole numbers is kept as numbers beside the packed list of its
+//! column, so that no
 //! cell is matched; any other stands as it is in the statement.
 ghost use Rattle.std.specs.Prelude.{◌≡◌, ℕ, [], IfOk, IfSome, false, slice_get, slice_index_or};
 ghost use Rattle.std.specs.Option.{option_map_or};
@@ -14,7 +15,8 @@ use csv_tables::Table;
 use row_values::{OutOfMemory, Pred, Test, Value};
 use std::alloc::Global;
 
-/// A predicate that is ready to be asked of the rows of a table: of the packed numbers of its column, or of the cells in
+/// A predicate that is ready to be asked of the rows of a table: of the packed numbers of its
+/// column, or of the cells in
 /// the column of this number.
 #[derive(Clone, Copy, Debug)]
 pub enum Ready<'a> {
@@ -22,7 +24,8 @@ pub enum Ready<'a> {
     Cells(usize, &'a Test),
 }
 
-/// The packed numbers of a column, counted from 0; none where the table has no such column of whole numbers.
+/// The packed numbers of a column, counted from 0; none where the table has no such column of whole
+/// numbers.
 fn packed(table: &Table, column: usize) -> Option<&[i64]>
     ensures { IfSome result (λ numbers. AreNumbers table.now column numbers.now) }
 {
@@ -34,7 +37,8 @@ fn packed(table: &Table, column: usize) -> Option<&[i64]>
 
 /// A predicate, ready for these arguments and the rows of this table.
 pub fn ready_pred<'a>(args: &[Value], table: &'a Table, pred: &'a Pred) -> Ready<'a>
-    ensures { (row : ℕ) → ready_holds args.now table.now result row ≡ holds args.now pred.now (slice_index_or table.now.rows row []) }
+    ensures { (row : ℕ) → ready_holds args.now table.now result row
+        ≡ holds args.now pred.now (slice_index_or table.now.rows row []) }
 {
     let column = usize::from(pred.at.column);
     match (packed(table, column), number_test(args, &pred.test)) {

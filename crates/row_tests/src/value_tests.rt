@@ -1,7 +1,9 @@
 //! Tests of a single value.
 //!
-//! `meets_test` tests any value; `number_test` makes a test against whole numbers alone, which compares them at once.
-//! An IN stays as it is: its numbers would make every test as large as the longest IN, and tests are copied.
+//! `meets_test` tests any value; `number_test` makes a test against whole numbers alone, which
+//! compares them at once.
+//! An IN stays as it is: its numbers would make every test as large as the longest IN, and tests
+//! are copied.
 ghost use Rattle.std.specs.Prelude.{◌≡◌, Some, IfSome, is_some, option_map};
 ghost use Rattle.row_values.specs.declared.values.Value.{Value as AnyValue};
 ghost use Rattle.std.specs.Prelude.{Option as Maybe};
@@ -84,10 +86,12 @@ fn number_of(args: &[Value], operand: &Operand) -> Option<i64>
     }
 }
 
-/// The test against whole numbers that this test is; none exactly where an operand is none, or it is an IN.
+/// The test against whole numbers that this test is; none exactly where an operand is none, or it
+/// is an IN.
 pub fn number_test(args: &[Value], test: &Test) -> Option<NumberTest>
     ensures found { is_some result ≡ has_numbers args.now test.now }
-    ensures value { IfSome result (λ numbers. (cell : Maybe AnyValue) → is_number_in numbers cell ≡ meets args.now test.now cell) }
+    ensures value { IfSome result (λ numbers. (cell : Maybe AnyValue) → is_number_in numbers cell
+        ≡ meets args.now test.now cell) }
 {
     match test {
         Test::Lt(a) => Some(NumberTest::Lt(number_of(args, a)?)),

@@ -12,9 +12,11 @@ operand_there : (left : Option Kind) (operand : Operand) → IsOperand left oper
 operand_there left (Literal value) is = rw is refl
 operand_there left (Param number) is = is
 
-first_there : (left : Option Kind) (operands : List Operand) → 0 < length operands → All (IsOperand left) operands → IsSome left
+first_there : (left : Option Kind) (operands : List Operand) → 0 < length operands → All (IsOperand left) operands
+    → IsSome left
 first_there left [] some are = absurd (omega (arith, some))
-first_there left (operand ∷ operands) some are = operand_there left operand (All-head (IsOperand left) operand operands are)
+first_there left (operand ∷ operands) some are =
+    operand_there left operand (All-head (IsOperand left) operand operands are)
 
 pub test_there : (left : Option Kind) (test : Test) → IsTest left test → IsSome left
 test_there left test is = first_there left (operands_of test) is.0.some is.1

@@ -1,5 +1,6 @@
 -- Doubling quotes byte by byte is doubling them character by character.
-use Rattle.std.proofs.Common.{ℕ, ◌≡◌, ◌<◌, ◌+◌, ◌/◌, ◌==◌, nat_lt, List, [], ◌∷◌, ◌++◌, Bool, true, false, cond, if◌then◌else◌, refl, sym, ap, ◌∙◌, arith, chars}
+use Rattle.std.proofs.Common.{ℕ, ◌≡◌, ◌<◌, ◌+◌, ◌/◌, ◌==◌, nat_lt, List, [], ◌∷◌, ◌++◌, Bool, true, false, cond}
+use Rattle.std.proofs.Common.{if◌then◌else◌, refl, sym, ap, ◌∙◌, arith, chars}
 use Rattle.std.specs.List.{flat_map}
 use lib.Utf8.{next}
 use Rattle.std.specs.Char.{encode_utf8}
@@ -19,10 +20,13 @@ high : (a : ℕ) (bytes : List ℕ) → 34 < a → flat_map doubled bytes ≡ by
 high a bytes above same = rw (doubled-above a above, same) refl
 
 -- the bytes of a character of several bytes are all above the quote
-several : (c : ℕ) (two three : Bool) → let bytes : List ℕ = cond two ((192 + c / 64) ∷ next c ∷ []) (cond three ((224 + c / 4096) ∷ next (c / 64) ∷ next c ∷ []) ((240 + c / 262144) ∷ next (c / 4096) ∷ next (c / 64) ∷ next c ∷ [])) in flat_map doubled bytes ≡ bytes
+several : (c : ℕ) (two three : Bool) → let bytes : List ℕ =
+    cond two ((192 + c / 64) ∷ next c ∷ []) (cond three ((224 + c / 4096) ∷ next (c / 64) ∷ next c
+    ∷ []) ((240 + c / 262144) ∷ next (c / 4096) ∷ next (c / 64) ∷ next c ∷ [])) in flat_map doubled bytes ≡ bytes
 several c true three = high _ _ (omega arith) (high _ _ (omega arith) refl)
 several c false true = high _ _ (omega arith) (high _ _ (omega arith) (high _ _ (omega arith) refl))
-several c false false = high _ _ (omega arith) (high _ _ (omega arith) (high _ _ (omega arith) (high _ _ (omega arith) refl)))
+several c false false =
+    high _ _ (omega arith) (high _ _ (omega arith) (high _ _ (omega arith) (high _ _ (omega arith) refl)))
 
 either : (c : ℕ) (ascii : Bool) (bytes : List ℕ) → nat_lt c 128 ≡ ascii → flat_map doubled bytes ≡ bytes
     → flat_map doubled (cond ascii (c ∷ []) bytes) ≡ (if c == 34 then 34 ∷ [] else []) ++ cond ascii (c ∷ []) bytes
@@ -38,7 +42,8 @@ doubled_letter c = either c (nat_lt c 128) _ refl (several c (nat_lt c 2048) (na
 doubled_letters : (cs : List ℕ) → flat_map doubled (encode_utf8_all cs) ≡ flat_map letter_bytes cs
 doubled_letters [] = refl
 doubled_letters (c ∷ cs) =
-    flat_map-append doubled (encode_utf8 c) (encode_utf8_all cs) ∙ ap (λ front. front ++ flat_map doubled (encode_utf8_all cs)) (doubled_letter c)
+    flat_map-append doubled (encode_utf8 c) (encode_utf8_all cs)
+    ∙ ap (λ front. front ++ flat_map doubled (encode_utf8_all cs)) (doubled_letter c)
     ∙ ap (λ back. letter_bytes c ++ back) (doubled_letters cs)
 
 pub doubled_text : (bs : List ℕ) → IsUtf8 bs → flat_map letter_bytes (chars bs) ≡ flat_map doubled bs

@@ -1,5 +1,7 @@
 -- A statement has at most sixteen parameters for each parameterised predicate.
-use Rattle.std.proofs.Common.{ℕ, Bool, true, false, refl, ◌≡◌, ◌≤◌, ◌+◌, ◌*◌, List, [], ◌∷◌, ◌++◌, length, map, if◌then◌else◌, Option, All, unwrap_or, ◌<◌, suc, drop, get_or, ap, sym, ◌∙◌, add-one, drop-cons, append_assoc, arith, length-append}
+use Rattle.std.proofs.Common.{ℕ, Bool, true, false, refl, ◌≡◌, ◌≤◌, ◌+◌, ◌*◌, List, [], ◌∷◌, ◌++◌, length, map}
+use Rattle.std.proofs.Common.{if◌then◌else◌, Option, All, unwrap_or, ◌<◌, suc, drop, get_or, ap, sym, ◌∙◌, add-one}
+use Rattle.std.proofs.Common.{drop-cons, append_assoc, arith, length-append}
 use Rattle.std.specs.List.{flat_map, list_any}
 use Rattle.std.proofs.lemmas.List.{length-map}
 use Rattle.std.proofs.lemmas.List.Elements.{All-head, All-tail}
@@ -9,7 +11,8 @@ use Rattle.row_values.specs.declared.statement.Place.{Place}
 use Rattle.row_values.specs.declared.statement.Pred.{Pred}
 use Rattle.row_values.specs.declared.statement.Operand.{Operand}
 use Rattle.row_values.specs.declared.statement.Operand.TheVariants.{Literal, Param}
-use Rattle.row_values.specs.Statements.{operand_parameters, operands_of, is_parameter, test_parameters, kinds_of, kind_at, selectivity_count, IsPred}
+use Rattle.row_values.specs.Statements.{operand_parameters, operands_of, is_parameter, test_parameters, kinds_of}
+use Rattle.row_values.specs.Statements.{kind_at, selectivity_count, IsPred}
 
 few_in_operand : (a : Operand) → length (operand_parameters a) ≤ 1
 few_in_operand (Literal value) = omega arith
@@ -57,11 +60,13 @@ length-kinds_of places (pred ∷ preds) are =
     )
 
 -- the kinds of one more predicate's parameters
-pub kinds_more : (places : List Place) (preds : List Pred) (index : ℕ) (pred : Pred) (left : Kind) (kinds after whole : List Kind) → index < length preds → pred ≡ get_or preds index pred
+pub kinds_more : (places : List Place) (preds : List Pred) (index : ℕ) (pred : Pred) (left : Kind)
+    (kinds after whole : List Kind) → index < length preds → pred ≡ get_or preds index pred
     → left ≡ unwrap_or (kind_at places pred.at) kind.Int → after ≡ kinds ++ map (λ _. left) (test_parameters pred.test)
     → kinds ++ kinds_of places (drop index preds) ≡ whole → after ++ kinds_of places (drop (index + 1) preds) ≡ whole
 kinds_more places preds index pred left kinds after whole there is k e same =
-    let cut : drop index preds ≡ pred ∷ drop (index + 1) preds = rw (add-one, drop-cons preds index pred there) (ap (λ (p : Pred). p ∷ drop (suc index) preds) (sym is)) in
+    let cut : drop index preds ≡ pred ∷ drop (index + 1) preds =
+    rw (add-one, drop-cons preds index pred there) (ap (λ (p : Pred). p ∷ drop (suc index) preds) (sym is)) in
     let more : List Kind = kinds_of places (drop (index + 1) preds) in
     ap (λ (ks : List Kind). ks ++ more) e
     ∙ (append_assoc kinds (map (λ _. left) (test_parameters pred.test)) more

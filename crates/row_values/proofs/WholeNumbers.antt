@@ -1,5 +1,6 @@
 -- The number that digits spell, digit by digit.
-use Rattle.std.proofs.Common.{◌≡◌, ◌<◌, ◌≤◌, ◌+◌, ◌-◌, ◌*◌, ◌&&◌, ℕ, nat_lt, nat_eq, Bool, true, false, List, [], ◌∷◌, if◌then◌else◌, Option, None, Some, length, refl, arith}
+use Rattle.std.proofs.Common.{◌≡◌, ◌<◌, ◌≤◌, ◌+◌, ◌-◌, ◌*◌, ◌&&◌, ℕ, nat_lt, nat_eq, Bool, true, false, List, [], ◌∷◌}
+use Rattle.std.proofs.Common.{if◌then◌else◌, Option, None, Some, length, refl, arith}
 use Rattle.std.specs.Str.{all_ascii_digits}
 use Rattle.std.proofs.lemmas.Bool.Decides.{nat_tests}
 use Rattle.row_values.specs.Numbers.{are_digits, read_on}
@@ -12,10 +13,12 @@ read_above n (digit ∷ digits) = let above = read_above (n * 10 + (digit - 48))
 abbrev bounded : List ℕ → ℕ → Option ℕ
 bounded digits limit = if are_digits digits && nat_lt (read_on 0 digits) limit then Some (read_on 0 digits) else None
 
-none_above : (b : Bool) (value limit : ℕ) → limit ≤ value → None ≡ (if b && nat_lt value limit then Some value else None)
+none_above : (b : Bool) (value limit : ℕ) → limit ≤ value
+    → None ≡ (if b && nat_lt value limit then Some value else None)
 none_above b value limit h = grind (arith, nat_tests)
 
-some_below : (b : Bool) (value limit : ℕ) → b ≡ true → value < limit → Some value ≡ (if b && nat_lt value limit then Some value else None)
+some_below : (b : Bool) (value limit : ℕ) → b ≡ true → value < limit → Some value
+    ≡ (if b && nat_lt value limit then Some value else None)
 some_below b value limit e h = grind (arith, nat_tests)
 
 -- a number that reaches the limit already stays there

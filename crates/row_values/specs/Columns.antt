@@ -12,7 +12,8 @@ is_name_in name (column ∷ columns) = bytes_eq column.name name || is_name_in n
 -- whether no name is empty and none stands twice
 abbrev pub are_names : List Column → Bool
 are_names [] = true
-are_names (column ∷ columns) = not (length column.name == 0) && not (is_name_in column.name columns) && are_names columns
+are_names (column ∷ columns) = not (length column.name == 0) && not (is_name_in column.name columns)
+    && are_names columns
 
 -- few enough columns, each with a name of its own
 pub record IsSchema (columns : List Column) : Type 0 where

@@ -1,5 +1,6 @@
 -- Whole numbers as texts spell them.
-use Rattle.std.specs.Prelude.{ℕ, ℤ, pos, ◌+◌, ◌-◌, ◌*◌, ◌^◌, neg_ℤ, ◌==◌, ◌&&◌, not, nat_lt, nat_le, List, [], ◌∷◌, length, Bool, Option, Some, None, if◌then◌else◌}
+use Rattle.std.specs.Prelude.{ℕ, ℤ, pos, ◌+◌, ◌-◌, ◌*◌, ◌^◌, neg_ℤ, ◌==◌, ◌&&◌, not, nat_lt, nat_le, List, [], ◌∷◌}
+use Rattle.std.specs.Prelude.{length, Bool, Option, Some, None, if◌then◌else◌}
 use Rattle.std.specs.Str.{all_ascii_digits}
 
 -- the number that digits spell, after the number n
@@ -17,7 +18,8 @@ plain_number_of text = if are_digits text && nat_lt (read_on 0 text) (2 ^ 63) th
 
 -- digits behind a minus
 abbrev pub minus_number_of : List ℕ → Option ℤ
-minus_number_of digits = if are_digits digits && nat_le (read_on 0 digits) (2 ^ 63) then Some (neg_ℤ (pos (read_on 0 digits))) else None
+minus_number_of digits = if are_digits digits && nat_le (read_on 0 digits) (2 ^ 63)
+    then Some (neg_ℤ (pos (read_on 0 digits))) else None
 
 -- the whole number of 64 bits that a text spells
 abbrev pub whole_number_of : List ℕ → Option ℤ

@@ -25,4 +25,5 @@ is_reserved word = is_word_in word (map (λ reserved. reserved.now) RESERVED)
 -- letters, digits and underscores, no digit in front, and no reserved word
 abbrev pub is_plain : List ℕ → Bool
 is_plain [] = false
-is_plain (first ∷ rest) = not (is_ascii_digit first) && are_name_bytes (first ∷ rest) && not (is_reserved (first ∷ rest))
+is_plain (first ∷ rest) = not (is_ascii_digit first) && are_name_bytes (first ∷ rest)
+    && not (is_reserved (first ∷ rest))

@@ -1,11 +1,14 @@
 -- The bound statement, and when its parts are sound.
-use Rattle.std.specs.Prelude.{ℕ, ◌≡◌, ◌≢◌, ◌<◌, ◌≤◌, ◌+◌, ◌==◌, List, [], ◌∷◌, ◌++◌, length, map, All, slice_get, Bool, true, false, not, ◌&&◌, ◌||◌, if◌then◌else◌, IsTrue, IsSome, Option, Some, unwrap_or, option_and_then}
+use Rattle.std.specs.Prelude.{ℕ, ◌≡◌, ◌≢◌, ◌<◌, ◌≤◌, ◌+◌, ◌==◌, List, [], ◌∷◌, ◌++◌, length, map, All, slice_get, Bool}
+use Rattle.std.specs.Prelude.{true, false, not, ◌&&◌, ◌||◌, if◌then◌else◌, IsTrue, IsSome, Option, Some, unwrap_or}
+use Rattle.std.specs.Prelude.{option_and_then}
 use Rattle.std.specs.List.{flat_map, list_any}
 use Rattle.std.specs.Option.{option_map}
 use Rattle.std.specs.Str.{bytes_eq}
 use Rattle.row_values.specs.Operands.{AreOperands}
 use Rattle.row_values.specs.Values.{kind_of}
-use Rattle.row_values.specs.declared.statement.TheConstants.{PLACE_LIMIT, SELECTIVITY_LIMIT, CONDITION_LIMIT, ITEM_LIMIT, KEY_LIMIT}
+use Rattle.row_values.specs.declared.statement.TheConstants.{PLACE_LIMIT, SELECTIVITY_LIMIT, CONDITION_LIMIT}
+use Rattle.row_values.specs.declared.statement.TheConstants.{ITEM_LIMIT, KEY_LIMIT}
 use Rattle.row_values.specs.declared.statement.Place.{Place}
 use Rattle.row_values.specs.declared.statement.ColRef.{ColRef}
 use Rattle.row_values.specs.declared.statement.Operand.{Operand}
@@ -36,7 +39,8 @@ statement_with places preds edges items groups order =
 -- the kind of a column, where the place and the column are there
 abbrev pub kind_at : List Place → ColRef → Option Kind
 kind_at places at =
-    option_and_then (λ place. option_map (λ column. column.kind) (slice_get place.schema at.column)) (slice_get places at.place)
+    option_and_then (λ place. option_map (λ column. column.kind) (slice_get place.schema at.column))
+    (slice_get places at.place)
 
 -- a column that is there
 abbrev pub IsColumn : List Place → ColRef → Type 0
@@ -121,7 +125,8 @@ is_alias_in alias (place ∷ places) = bytes_eq place.alias alias || is_alias_in
 -- whether no alias is empty and none stands twice
 abbrev pub are_aliases : List Place → Bool
 are_aliases [] = true
-are_aliases (place ∷ places) = not (length place.alias == 0) && not (is_alias_in place.alias places) && are_aliases places
+are_aliases (place ∷ places) = not (length place.alias == 0) && not (is_alias_in place.alias places)
+    && are_aliases places
 
 -- whether the column is among these
 abbrev pub is_among : List ColRef → ColRef → Bool
@@ -148,7 +153,8 @@ is_column_item (item.Max at) = false
 abbrev pub AreGrouped : List ColRef → List Item → List OrderKey → Type 0
 AreGrouped [] items order = All (λ item. IsTrue (is_column_item item)) items
 AreGrouped (group ∷ groups) items order =
-    All (λ item. IsTrue (is_grouped_item (group ∷ groups) item)) items × All (λ key. IsTrue (is_among (group ∷ groups) key.at)) order
+    All (λ item. IsTrue (is_grouped_item (group ∷ groups) item)) items
+    × All (λ key. IsTrue (is_among (group ∷ groups) key.at)) order
 
 -- the parts of a statement go together and are within the limits
 pub record IsSoundQuery (q : Statement) : Type 0 where

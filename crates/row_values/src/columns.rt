@@ -1,6 +1,7 @@
 //! Columns and schemas: what the cells of a table are called and which kind they have.
 //!
-//! Every `Schema` has at most 64 columns, none without a name and no name twice; `Schema::of` is the one way in.
+//! Every `Schema` has at most 64 columns, none without a name and no name twice; `Schema::of` is
+//! the one way in.
 ghost use Rattle.std.specs.Prelude.{◌≡◌, ◌≤◌, ◌↔◌, IfOk, IfSome, IsSome, IsTrue};
 ghost use Rattle.row_values.specs.Columns.{IsSchema, is_name_in, are_names};
 
@@ -67,7 +68,8 @@ fn names_differ(columns: &[Column]) -> bool
 }
 
 impl Schema {
-    /// These columns as a schema; none exactly where there are more than 64, or a name is empty or stands
+    /// These columns as a schema; none exactly where there are more than 64, or a name is empty or
+    /// stands
     /// twice. It takes no memory.
     pub fn of(columns: Vec<Column>) -> Option<Schema>
         ensures value { IfSome result (λ schema. schema ≡ columns.items) }

@@ -1,6 +1,7 @@
 //! Values, schemas and refusals: what every layer above speaks of.
 //!
-//! A text is a list of bytes, a value is a whole number or a text, a schema is a list of named columns.
+//! A text is a list of bytes, a value is a whole number or a text, a schema is a list of named
+//! columns.
 //! It knows no file, no statement text and no plan.
 #![tactic(auto)]
 

@@ -29,7 +29,8 @@ impl Model for Operands {
 }
 
 impl Operands {
-    /// These operands; none exactly where there is none of them or there are more than sixteen. It takes no
+    /// These operands; none exactly where there is none of them or there are more than sixteen. It
+    /// takes no
     /// memory.
     pub fn of(parts: Vec<Operand>) -> Option<Operands>
         ensures value { IfSome result (λ operands. operands ≡ parts.items) }

@@ -1,6 +1,7 @@
 //! Plain names: those that need no quotes.
 //!
-//! A plain name is an ASCII letter or `_`, then ASCII letters, digits and `_`, and no reserved word in any case
+//! A plain name is an ASCII letter or `_`, then ASCII letters, digits and `_`, and no reserved word
+//! in any case
 //! of letters.
 ghost use Rattle.std.specs.Prelude.{◌≡◌, map};
 ghost use Rattle.row_values.specs.Plain.{is_plain, is_reserved, is_same_word, is_word_in, are_name_bytes};

@@ -1,6 +1,7 @@
 //! Refusals: a script line that is turned down says why, by a number, words, and what it shows.
 //!
-//! A refusal's number stands here and nowhere else, and so do its words: each refusal has a maker. To add a refusal,
+//! A refusal's number stands here and nowhere else, and so do its words: each refusal has a maker.
+//! To add a refusal,
 //! add its constant, its case of `refusal_words` in both places, and its maker in both.
 ghost use Rattle.std.specs.Prelude.{◌≡◌, [], IfOk};
 ghost use Rattle.std.specs.Option.{option_map};
@@ -53,7 +54,8 @@ pub const STORE_LIMIT: u8 = 20;
 /// A line whose part of the language isn't built yet.
 pub const NOT_BUILT: u8 = 21;
 
-/// Why a script line was turned down: one of the numbers above, and what it shows (a text without a byte
+/// Why a script line was turned down: one of the numbers above, and what it shows (a text without a
+/// byte
 /// where it shows nothing).
 #[derive(Debug, Drop, PartialEq, Eq)]
 pub struct Refusal {

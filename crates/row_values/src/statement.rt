@@ -1,14 +1,21 @@
-//! The bound statement: places, predicates, edges, items, grouping and order, by numbers and no names.
+//! The bound statement: places, predicates, edges, items, grouping and order, by numbers and no
+//! names.
 //!
-//! Every `Query` is sound: its parts are in range, of fitting kinds and within the limits, as `IsSoundQuery` says
+//! Every `Query` is sound: its parts are in range, of fitting kinds and within the limits, as
+//! `IsSoundQuery` says
 //! field by field. `Query::make` is the one way in.
-ghost use Rattle.std.specs.Prelude.{◌≡◌, ◌≤◌, ◌<◌, ◌*◌, ◌^◌, ◌+◌, ◌==◌, ◌++◌, ℕ, List, [], ◌∷◌, false, not, ◌↔◌, IfSome, IsSome, IsTrue, MatchOption, All, length, map};
+ghost use Rattle.std.specs.Prelude.{◌≡◌, ◌≤◌, ◌<◌, ◌*◌, ◌^◌, ◌+◌, ◌==◌, ◌++◌, ℕ, List, [], ◌∷◌, false, not, ◌↔◌};
+ghost use Rattle.std.specs.Prelude.{IfSome, IsSome, IsTrue, MatchOption, All, length, map};
 ghost use Rattle.std.specs.List.{flat_map, list_any};
 ghost use Rattle.std.specs.Option.{option_map};
 ghost use Rattle.row_values.specs.Columns.{IsSchema};
 ghost use Rattle.row_values.specs.Operands.{AreOperands};
 ghost use Rattle.row_values.specs.Statements as statements;
-ghost use Rattle.row_values.specs.Statements.{IsSoundQuery, statement_with, IsOperand, IsTest, IsPred, IsEdge, IsItem, IsColumn, AreGrouped, kind_at, kinds_of, is_alias_in, are_aliases, is_among, is_grouped_item, is_column_item, selectivity_count as count_of, operands_of, operand_parameters, test_parameters, parameters_of, are_numbered};
+ghost use Rattle.row_values.specs.Statements.{IsSoundQuery, statement_with, IsOperand, IsTest, IsPred, IsEdge, IsItem};
+ghost use Rattle.row_values.specs.Statements.{IsColumn, AreGrouped, kind_at, kinds_of, is_alias_in, are_aliases};
+ghost use Rattle.row_values.specs.Statements.{is_among, is_grouped_item, is_column_item, selectivity_count as count_of};
+ghost use Rattle.row_values.specs.Statements.{operands_of, operand_parameters, test_parameters, parameters_of};
+ghost use Rattle.row_values.specs.Statements.{are_numbered};
 
 use crate::columns::Schema;
 use crate::operands::{OPERAND_LIMIT, Operands};
@@ -65,7 +72,8 @@ pub enum Test {
 }
 
 impl Test {
-    /// What the column is compared with: the operands of the first slice in text order, then those of the second.
+    /// What the column is compared with: the operands of the first slice in text order, then those
+    /// of the second.
     pub fn operands(&self) -> (&[Operand], &[Operand])
         ensures value { result.0.now ++ result.1.now ≡ operands_of self.now }
         ensures count { AreOperands (operands_of self.now) }

@@ -1,7 +1,8 @@
 //! Values and their kinds: what a cell holds and what an argument is.
 //!
 //! Numbers are ordered as numbers, texts by their bytes, and the two kinds are never compared:
-//! `compare` is the value order. The derived order puts numbers before texts, and serves keys of maps alone.
+//! `compare` is the value order. The derived order puts numbers before texts, and serves keys of
+//! maps alone.
 ghost use Rattle.std.specs.Prelude.{◌≡◌, IfOk};
 ghost use Rattle.row_values.specs.Values.{value_cmp, kind_of};
 

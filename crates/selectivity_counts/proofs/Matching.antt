@@ -1,5 +1,6 @@
 -- Counting row by row.
-use Rattle.std.proofs.Common.{ℕ, ◌≡◌, ◌<◌, ◌+◌, ◌++◌, Bool, true, false, List, [], ◌∷◌, length, take, get_or, cond, ap, ◌∙◌, refl, add-one, length-append}
+use Rattle.std.proofs.Common.{ℕ, ◌≡◌, ◌<◌, ◌+◌, ◌++◌, Bool, true, false, List, [], ◌∷◌, length, take, get_or, cond, ap}
+use Rattle.std.proofs.Common.{◌∙◌, refl, add-one, length-append}
 use Rattle.std.specs.Prelude.{filter}
 use Rattle.std.proofs.Math.Seq.{take-suc}
 use Rattle.std.proofs.lemmas.List.Elements.{filter-append}
@@ -16,7 +17,8 @@ one_more_row p rows row h =
     ap (λ (taken : List (List Value)). length (filter p taken)) more
     ∙ (ap length (filter-append p (take row rows) (here ∷ []))
     ∙ (length-append (filter p (take row rows)) (filter p (here ∷ []))
-    ∙ elim (p here) as (λ b. length (filter p (take row rows)) + length (cond b (here ∷ []) []) ≡ length (filter p (take row rows)) + cond b 1 0) [ true ↦ refl | false ↦ refl ]))
+    ∙ elim (p here) as (λ b. length (filter p (take row rows)) + length (cond b (here ∷ []) [])
+    ≡ length (filter p (take row rows)) + cond b 1 0) [ true ↦ refl | false ↦ refl ]))
 
 -- a row more is counted where it meets the predicate
 pub one_more_match : (args : List Value) (pred : Pred) (rows : List (List Value)) (row count : ℕ) (met : Bool)

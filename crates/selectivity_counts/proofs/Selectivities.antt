@@ -1,5 +1,6 @@
 -- The selectivity vector, predicate by predicate.
-use Rattle.std.proofs.Common.{ℕ, zero, suc, ◌≡◌, ◌<◌, ◌≤◌, ◌+◌, ◌++◌, max, Bool, true, false, List, [], ◌∷◌, length, take, drop, set, get_or, cond, ap, ◌∙◌, sym, refl, arith, add-one, drop-cons}
+use Rattle.std.proofs.Common.{ℕ, zero, suc, ◌≡◌, ◌<◌, ◌≤◌, ◌+◌, ◌++◌, max, Bool, true, false, List, [], ◌∷◌, length}
+use Rattle.std.proofs.Common.{take, drop, set, get_or, cond, ap, ◌∙◌, sym, refl, arith, add-one, drop-cons}
 use Rattle.std.proofs.lemmas.List.{append_assoc}
 use Rattle.row_values.specs.declared.values.Value.{Value}
 use Rattle.row_values.specs.declared.statement.Pred.{Pred}
@@ -12,7 +13,8 @@ known_next : (numbers : List ℕ) (known number : ℕ) → known < length number
     → take (suc known) (set numbers known number) ≡ take known numbers ++ number ∷ []
 known_next [] known number h = absurd (omega (arith, h))
 known_next (n ∷ numbers) zero number h = refl
-known_next (n ∷ numbers) (suc known) number h = ap (λ (ns : List ℕ). n ∷ ns) (known_next numbers known number (omega (arith, h)))
+known_next (n ∷ numbers) (suc known) number h =
+    ap (λ (ns : List ℕ). n ∷ ns) (known_next numbers known number (omega (arith, h)))
 
 pub known_more : (numbers : List ℕ) (known number : ℕ) → known < length numbers
     → take (known + 1) (set numbers known number) ≡ take known numbers ++ number ∷ []
@@ -24,13 +26,15 @@ next_left preds k pred is h =
     rw add-one (drop-cons preds k pred h ∙ ap (λ (one : Pred). one ∷ drop (suc k) preds) (sym is))
 
 -- the numbers so far, of a statement of one place with these predicates, of which so many are left
-pub record SoFar (rows : List (List Value)) (args : List Value) (preds : List Pred) (k known : ℕ) (numbers : List ℕ) : Type 0 where
+pub record SoFar (rows : List (List Value)) (args : List Value) (preds : List Pred) (k known : ℕ)
+    (numbers : List ℕ) : Type 0 where
   pub long : length numbers ≡ 8
   pub room : known + selectivity_count (drop k preds) ≤ 8
   pub value : take known numbers ++ selectivities (rows ∷ []) args (drop k preds) ≡ selectivities (rows ∷ []) args preds
 
 -- a predicate that is fixed adds nothing
-pub passed_over : (rows : List (List Value)) (args : List Value) (preds : List Pred) (k known : ℕ) (numbers : List ℕ) (pred : Pred)
+pub passed_over : (rows : List (List Value)) (args : List Value) (preds : List Pred) (k known : ℕ) (numbers : List ℕ)
+    (pred : Pred)
     → pred ≡ get_or preds k pred → k < length preds → is_parameterised pred ≡ false
     → SoFar rows args preds k known numbers → SoFar rows args preds (k + 1) known numbers
 passed_over rows args preds k known numbers pred is h fixed s =
@@ -42,7 +46,8 @@ passed_over rows args preds k known numbers pred is h fixed s =
     }
 
 -- a parameterised one adds its count
-pub counted : (rows : List (List Value)) (args : List Value) (preds : List Pred) (k known : ℕ) (numbers new : List ℕ) (pred : Pred) (number : ℕ)
+pub counted : (rows : List (List Value)) (args : List Value) (preds : List Pred) (k known : ℕ) (numbers new : List ℕ)
+    (pred : Pred) (number : ℕ)
     → pred ≡ get_or preds k pred → k < length preds → is_parameterised pred ≡ true → pred.at.place ≡ 0
     → number ≡ max 1 (matching args pred rows) → length new ≡ 8
     → take (known + 1) new ≡ take known numbers ++ number ∷ []
@@ -61,7 +66,8 @@ counted rows args preds k known numbers new pred number is h varies place counts
     }
 
 -- there is room for the number of a predicate that is left
-pub room_left : (rows : List (List Value)) (args : List Value) (preds : List Pred) (k known : ℕ) (numbers : List ℕ) (pred : Pred)
+pub room_left : (rows : List (List Value)) (args : List Value) (preds : List Pred) (k known : ℕ) (numbers : List ℕ)
+    (pred : Pred)
     → pred ≡ get_or preds k pred → k < length preds → is_parameterised pred ≡ true
     → SoFar rows args preds k known numbers → known < length numbers
 room_left rows args preds k known numbers pred is h varies s =

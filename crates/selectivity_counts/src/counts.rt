@@ -1,6 +1,7 @@
 //! How many rows of a table meet a predicate.
 //!
-//! The operands are looked up once, before the first row. A column of whole numbers is gone over as a packed list, so that
+//! The operands are looked up once, before the first row. A column of whole numbers is gone over as
+//! a packed list, so that
 //! a pass for each predicate reads no more than one pass for all would.
 ghost use Rattle.std.specs.Prelude.{◌≡◌, ◌≤◌, length};
 ghost use Rattle.statement_meaning.specs.Vectors.{matching};

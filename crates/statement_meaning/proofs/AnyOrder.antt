@@ -1,5 +1,6 @@
 -- What a group shows doesn't depend on the order of its members, nor on which of them is taken first.
-use Rattle.std.proofs.Common.{ℕ, ◌≡◌, ◌≤◌, ◌+◌, ◌++◌, suc, ℤ, pos, ◌+ℤ◌, Bool, true, false, ◌&&◌, ◌||◌, ◌==◌, List, [], ◌∷◌, length, get_or, map, cond, ap, ap₂, sym, ◌∙◌, refl, arith, subst}
+use Rattle.std.proofs.Common.{ℕ, ◌≡◌, ◌≤◌, ◌+◌, ◌++◌, suc, ℤ, pos, ◌+ℤ◌, Bool, true, false, ◌&&◌, ◌||◌, ◌==◌, List, []}
+use Rattle.std.proofs.Common.{◌∷◌, length, get_or, map, cond, ap, ap₂, sym, ◌∙◌, refl, arith, subst}
 use Rattle.std.specs.Prelude.{All, IsTrue, Option, Some, None, slice_get}
 use Rattle.std.specs.Ordering.{is_lt, ordering_then}
 use Rattle.std.specs.declared.cmp.Ordering.{Ordering}
@@ -17,7 +18,8 @@ use Rattle.row_values.specs.declared.statement.Item.{Item}
 use Rattle.row_values.specs.declared.statement.Item.TheVariants.{Column, CountAll, Sum, Min, Max}
 use Rattle.statement_meaning.specs.Combinations.{row_at}
 use Rattle.row_values.specs.Orders.{value_order, cell_order}
-use Rattle.statement_meaning.specs.Meaning.{Shown, Total, cell_of, column_order, keys_order, is_lower, group_keys, is_same_group, number_in, sum_of, shown_cell, shown_item, shown_row}
+use Rattle.statement_meaning.specs.Meaning.{Shown, Total, cell_of, column_order, keys_order, is_lower, group_keys}
+use Rattle.statement_meaning.specs.Meaning.{is_same_group, number_in, sum_of, shown_cell, shown_item, shown_row}
 use Rattle.statement_meaning.specs.PartialCombinations.{is_same}
 use Rattle.row_values.specs.Sorting.{put_in, in_order, least_of, times}
 use Rattle.row_values.proofs.Counting.{exact_lists, HaveSame}
@@ -96,7 +98,8 @@ least_with lt o f x c [] h = absurd (omega (arith, h))
 least_with lt o f x c (m ∷ ms) h = by_test (is_same c m) refl h (λ k. least_with lt o f (lesser lt x (f m)) c ms k)
   where
     by_test : (b : Bool) → is_same c m ≡ b → 1 ≤ cond b (suc (times is_same c ms)) (times is_same c ms)
-        → (1 ≤ times is_same c ms → least_of lt (lesser lt (lesser lt x (f m)) (f c)) (map f ms) ≡ least_of lt (lesser lt x (f m)) (map f ms))
+        → (1 ≤ times is_same c ms → least_of lt (lesser lt (lesser lt x (f m)) (f c)) (map f ms)
+        ≡ least_of lt (lesser lt x (f m)) (map f ms))
         → least_of lt (lesser lt (lesser lt x (f c)) (f m)) (map f ms) ≡ least_of lt (lesser lt x (f m)) (map f ms)
     by_test true e k more =
         let one : f c ≡ f m = ap f (exact_lists.one c m e) in
@@ -116,7 +119,8 @@ pub least_any : {X : Type 0} (lt : X → X → Bool) → IsFullOrder lt
 least_any lt o f c d ms ns same h k =
     least_from lt o f c d ms h (subst (λ (n : ℕ). 1 ≤ n) (sym (same d)) k)
     ∙ (sym (least_in_order lt o f is_lower (f d) ms)
-    ∙ (ap (λ (zs : List (List ℕ)). least_of lt (f d) (map f zs)) (in_order_same is_same exact_lists is_lower lower_full ms ns same)
+    ∙ (ap (λ (zs : List (List ℕ)). least_of lt (f d) (map f zs))
+    (in_order_same is_same exact_lists is_lower lower_full ms ns same)
     ∙ least_in_order lt o f is_lower (f d) ns))
 
 -- The count and the sum.
@@ -162,7 +166,8 @@ pub sum_any : (f : List ℕ → Option Value) (ms ns : List (List ℕ)) → Have
     → sum_of (map f ms) ≡ sum_of (map f ns)
 sum_any f ms ns same =
     sym (sum_in_order f is_lower ms)
-    ∙ (ap (λ (zs : List (List ℕ)). sum_of (map f zs)) (in_order_same is_same exact_lists is_lower lower_full ms ns same) ∙ sum_in_order f is_lower ns)
+    ∙ (ap (λ (zs : List (List ℕ)). sum_of (map f zs)) (in_order_same is_same exact_lists is_lower lower_full ms ns same)
+    ∙ sum_in_order f is_lower ns)
 
 -- Cells of one group.
 
@@ -204,9 +209,11 @@ same_column : (tables : List (List (List Value))) (x y : ColRef) (c d : List ℕ
     → x.column ≡ y.column → column_order tables x c d ≡ column_order tables y c d
 same_column tables x y c d p q =
     ap
-    (λ (place : ℕ). cell_order (slice_get (row_at tables place (get_or c place 0)) x.column) (slice_get (row_at tables place (get_or d place 0)) x.column))
+    (λ (place : ℕ). cell_order (slice_get (row_at tables place (get_or c place 0)) x.column)
+    (slice_get (row_at tables place (get_or d place 0)) x.column))
     p
-    ∙ ap (λ (column : ℕ). cell_order (slice_get (row_at tables y.place (get_or c y.place 0)) column) (slice_get (row_at tables y.place (get_or d y.place 0)) column)) q
+    ∙ ap (λ (column : ℕ). cell_order (slice_get (row_at tables y.place (get_or c y.place 0)) column)
+    (slice_get (row_at tables y.place (get_or d y.place 0)) column)) q
 
 -- members of one group tie in each GROUP BY column
 pub group_ties : (tables : List (List (List Value))) (groups : List ColRef) (at : ColRef) (c d : List ℕ)
@@ -214,14 +221,16 @@ pub group_ties : (tables : List (List (List Value))) (groups : List ColRef) (at 
 group_ties tables [] at c d m h = absurd (false≢true m)
 group_ties tables (group ∷ groups) at c d m h =
     by_place ((group.place == at.place) && (group.column == at.column)) refl m
-    (λ k. group_ties tables groups at c d k (then_second (column_order tables group c d) (keys_order tables (group_keys groups) c d) h))
+    (λ k. group_ties tables groups at c d k (then_second (column_order tables group c d)
+    (keys_order tables (group_keys groups) c d) h))
   where
     by_place : (b : Bool) → ((group.place == at.place) && (group.column == at.column)) ≡ b
         → (b || is_among groups at) ≡ true → (is_among groups at ≡ true → column_order tables at c d ≡ Equal)
         → column_order tables at c d ≡ Equal
     by_place true e k more =
         let both = and_parts (group.place == at.place) (group.column == at.column) e in
-        sym (same_column tables group at c d (eqb-true group.place at.place both.0) (eqb-true group.column at.column both.1))
+        sym (same_column tables group at c d (eqb-true group.place at.place both.0)
+        (eqb-true group.column at.column both.1))
         ∙ then_first (column_order tables group c d) (keys_order tables (group_keys groups) c d) h
     by_place false e k more = more k
 
@@ -255,8 +264,10 @@ pub row_any : (tables : List (List (List Value))) (groups : List ColRef) (items 
 row_any tables groups [] a c d ms ns g same h k = refl
 row_any tables groups (item ∷ items) a c d ms ns g same h k =
     ap₂ (λ (shown : Shown) (rest : List Shown). shown ∷ rest)
-    (item_any tables groups item (All-head (λ item. IsTrue (is_grouped_item groups item)) item items a) c d ms ns g same h k)
-    (row_any tables groups items (All-tail (λ item. IsTrue (is_grouped_item groups item)) item items a) c d ms ns g same h k)
+    (item_any tables groups item (All-head (λ item. IsTrue (is_grouped_item groups item)) item items a) c d ms ns g same
+    h k)
+    (row_any tables groups items (All-tail (λ item. IsTrue (is_grouped_item groups item)) item items a) c d ms ns g same
+    h k)
 
 -- What an accumulator does at one more member: the count, the sum, and the least or greatest so far.
 

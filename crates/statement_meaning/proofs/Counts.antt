@@ -15,7 +15,8 @@ length-selectivities tables args (pred ∷ preds) =
     by_kind (is_parameterised pred) (length-selectivities tables args preds)
   where
     by_kind : (b : Bool) → length (selectivities tables args preds) ≡ selectivity_count preds
-        → length (cond b (max 1 (matching args pred (rows_at tables pred.at.place)) ∷ selectivities tables args preds) (selectivities tables args preds)) ≡ cond b 1 0 + selectivity_count preds
+        → length (cond b (max 1 (matching args pred (rows_at tables pred.at.place)) ∷ selectivities tables args preds)
+        (selectivities tables args preds)) ≡ cond b 1 0 + selectivity_count preds
     by_kind true more = omega (arith, more)
     by_kind false more = omega (arith, more)
 
@@ -26,6 +27,7 @@ positive_selectivities tables args (pred ∷ preds) =
     by_kind (is_parameterised pred) (positive_selectivities tables args preds)
   where
     by_kind : (b : Bool) → All (λ s. 1 ≤ s) (selectivities tables args preds)
-        → All (λ s. 1 ≤ s) (cond b (max 1 (matching args pred (rows_at tables pred.at.place)) ∷ selectivities tables args preds) (selectivities tables args preds))
+        → All (λ s. 1 ≤ s) (cond b (max 1 (matching args pred (rows_at tables pred.at.place))
+        ∷ selectivities tables args preds) (selectivities tables args preds))
     by_kind true more = All-cons (λ s. 1 ≤ s) _ _ (omega arith) more
     by_kind false more = more

@@ -1,5 +1,6 @@
 -- One place enters a join: the case of one place of the law of joins.
-use Rattle.std.proofs.Common.{ℕ, ◌≡◌, ◌<◌, Bool, true, false, ◌&&◌, ◌==◌, List, [], ◌∷◌, get_or, set, map, cond, ap, sym, ◌∙◌, refl, subst}
+use Rattle.std.proofs.Common.{ℕ, ◌≡◌, ◌<◌, Bool, true, false, ◌&&◌, ◌==◌, List, [], ◌∷◌, get_or, set, map, cond, ap}
+use Rattle.std.proofs.Common.{sym, ◌∙◌, refl, subst}
 use Rattle.std.specs.Prelude.{filter, All, nat_eq}
 use Rattle.std.proofs.lemmas.Bool.{false≢true, eqb-true, eq-eqb, ne_eqb}
 use Rattle.std.proofs.lemmas.List.{ext_get_or, get_or-set_same, get_or-set_other, length-set}
@@ -7,9 +8,12 @@ use Rattle.std.proofs.lemmas.List.Elements.{All-nil, All-cons, All-head, All-tai
 use Rattle.row_values.specs.declared.statement.Edge.{Edge}
 use Rattle.row_values.specs.RowNumbers.{row_numbers}
 use Rattle.statement_meaning.specs.Combinations.{World, edges_hold}
-use Rattle.statement_meaning.specs.PartialCombinations.{single, either, AreApart, HasSoundEdges, is_inside, edges_between, Fits, is_same, Once, merged, joined, Offers, placed, joined_rows, RowsOnce, OffersRows}
+use Rattle.statement_meaning.specs.PartialCombinations.{single, either, AreApart, HasSoundEdges, is_inside}
+use Rattle.statement_meaning.specs.PartialCombinations.{edges_between, Fits, is_same, Once, merged, joined, Offers}
+use Rattle.statement_meaning.specs.PartialCombinations.{placed, joined_rows, RowsOnce, OffersRows}
 use Rattle.row_values.specs.Sorting.{times}
-use Rattle.row_values.proofs.Counting.{exact_lists, exact_numbers, HaveSame, all_of_same, times-filter, times_row_numbers}
+use Rattle.row_values.proofs.Counting.{exact_lists, exact_numbers, HaveSame, all_of_same, times-filter}
+use Rattle.row_values.proofs.Counting.{times_row_numbers}
 use Rattle.statement_meaning.proofs.Joining.{joined_once}
 use Rattle.statement_meaning.proofs.Merging.{merged_is, length-placed, placed_there, placed_elsewhere}
 use Rattle.row_values.proofs.Rising.{below}
@@ -25,14 +29,17 @@ one_place_edges : (place : ℕ) (es : List Edge) → All (λ edge. (edge.left.pl
     → filter (is_inside (single place)) es ≡ []
 one_place_edges place [] a = refl
 one_place_edges place (edge ∷ es) a =
-    ap (λ (b : Bool). cond b (edge ∷ filter (is_inside (single place)) es) (filter (is_inside (single place)) es)) (by_ends (place == edge.left.place) refl (place == edge.right.place) refl)
+    ap (λ (b : Bool). cond b (edge ∷ filter (is_inside (single place)) es) (filter (is_inside (single place)) es))
+    (by_ends (place == edge.left.place) refl (place == edge.right.place) refl)
     ∙ one_place_edges place es (All-tail (λ edge. (edge.left.place == edge.right.place) ≡ false) edge es a)
   where
     by_ends : (x : Bool) → (place == edge.left.place) ≡ x → (y : Bool) → (place == edge.right.place) ≡ y
         → ((place == edge.left.place) && (place == edge.right.place)) ≡ false
     by_ends true p true q =
         absurd
-        (false≢true (sym (All-head (λ edge. (edge.left.place == edge.right.place) ≡ false) edge es a) ∙ eq-eqb edge.left.place edge.right.place (sym (eqb-true place edge.left.place p) ∙ eqb-true place edge.right.place q)))
+        (false≢true (sym (All-head (λ edge. (edge.left.place == edge.right.place) ≡ false) edge es a)
+        ∙ eq-eqb edge.left.place edge.right.place (sym (eqb-true place edge.left.place p)
+        ∙ eqb-true place edge.right.place q)))
     by_ends true p false q = rw (p, q) refl
     by_ends false p y q = rw p refl
 
@@ -48,10 +55,12 @@ row_fits world sound place i row a b = record {
 }
   where
     at_it : (other : ℕ) → place ≡ other
-        → (get_or (placed world place row) other 0 < world.size other) × (world.passes other (get_or (placed world place row) other 0) ≡ true)
+        → (get_or (placed world place row) other 0 < world.size other)
+        × (world.passes other (get_or (placed world place row) other 0) ≡ true)
     at_it other e =
         subst
-        (λ (other : ℕ). (get_or (placed world place row) other 0 < world.size other) × (world.passes other (get_or (placed world place row) other 0) ≡ true))
+        (λ (other : ℕ). (get_or (placed world place row) other 0 < world.size other)
+        × (world.passes other (get_or (placed world place row) other 0) ≡ true))
         e (rw (placed_there world place row i) (a, b))
 
 -- a combination over one place is that of its row there
@@ -78,10 +87,13 @@ same_placed world place i d g row =
     by_test true e true h = e ∙ sym h
     by_test false e false h = e ∙ sym h
     by_test true e false h =
-        let there : get_or d place 0 ≡ row = ap (λ (z : List ℕ). get_or z place 0) (exact_lists.one d (placed world place row) e) ∙ placed_there world place row i in
+        let there : get_or d place 0 ≡ row =
+        ap (λ (z : List ℕ). get_or z place 0) (exact_lists.one d (placed world place row) e)
+        ∙ placed_there world place row i in
         absurd (false≢true (sym h ∙ eq-eqb (get_or d place 0) row there))
     by_test false e true h =
-        let whole : placed world place row ≡ d = ap (placed world place) (sym (eqb-true (get_or d place 0) row h)) ∙ placed_row world place i d g in
+        let whole : placed world place row ≡ d = ap (placed world place) (sym (eqb-true (get_or d place 0) row h))
+        ∙ placed_row world place i d g in
         absurd (false≢true (sym e ∙ (ap (is_same d) whole ∙ exact_lists.itself d)))
 
 times_placed : (world : World) (place : ℕ) → place < world.places → (d : List ℕ) → Fits world (single place) d
@@ -97,15 +109,18 @@ all_placed world sound place i [] a = All-nil (Fits world (single place))
 all_placed world sound place i (row ∷ rows) a =
     let here = All-head (λ row. (row < world.size place) × (world.passes place row ≡ true)) row rows a in
     All-cons (Fits world (single place)) (placed world place row) _ (row_fits world sound place i row here.0 here.1)
-    (all_placed world sound place i rows (All-tail (λ row. (row < world.size place) × (world.passes place row ≡ true)) row rows a))
+    (all_placed world sound place i rows (All-tail (λ row. (row < world.size place)
+    × (world.passes place row ≡ true)) row rows a))
 
--- the rows of a place that meet its predicates, each once, are the combinations over that place: the first step of each plan
+-- the rows of a place that meet its predicates, each once, are the combinations over that place: the first step of each
+-- plan
 pub rows_once : (world : World) → HasSoundEdges world → (place : ℕ) → place < world.places → (rows : List ℕ)
     → RowsOnce world place rows → Once world (single place) (map (placed world place) rows)
 rows_once world sound place i rows o = record {
   only = all_placed world sound place i rows o.only;
   once =
-      λ d g. let here = g.within place (eq-eqb place place refl) in times_placed world place i d g rows ∙ o.once (get_or d place 0) here.0 here.1;
+      λ d g. let here = g.within place (eq-eqb place place refl) in times_placed world place i d g rows
+      ∙ o.once (get_or d place 0) here.0 here.1;
 }
 
 -- A combination with one more row.
@@ -122,12 +137,16 @@ merged_placed world outer place out i c f row =
     by_set other n false e = f.zeros other e ∙ sym (placed_elsewhere world place row other n)
 
     by_place : (other : ℕ) (b : Bool) → single place other ≡ b
-        → get_or (set c place row) other 0 ≡ cond (outer other) (get_or c other 0) (get_or (placed world place row) other 0)
+        → get_or (set c place row) other 0
+        ≡ cond (outer other) (get_or c other 0) (get_or (placed world place row) other 0)
     by_place other true e =
         subst
-        (λ (other : ℕ). get_or (set c place row) other 0 ≡ cond (outer other) (get_or c other 0) (get_or (placed world place row) other 0))
+        (λ (other : ℕ). get_or (set c place row) other 0
+        ≡ cond (outer other) (get_or c other 0) (get_or (placed world place row) other 0))
         (eqb-true place other e)
-        (get_or-set_same c place row 0 (rw f.long i) ∙ sym (ap (λ (b : Bool). cond b (get_or c place 0) (get_or (placed world place row) place 0)) out ∙ placed_there world place row i))
+        (get_or-set_same c place row 0 (rw f.long i)
+        ∙ sym (ap (λ (b : Bool). cond b (get_or c place 0) (get_or (placed world place row) place 0)) out
+        ∙ placed_there world place row i))
     by_place other false e =
         get_or-set_other c place other row 0 (λ q. false≢true (sym e ∙ eq-eqb place other (sym q)))
         ∙ by_set other e (outer other) refl
@@ -142,11 +161,14 @@ rows_merged world outer place out i c f (row ∷ rows) =
 -- the join by a place is the join by the combinations over that place
 pub joined_rows_is : (world : World) (outer : ℕ → Bool) (place : ℕ) → outer place ≡ false → place < world.places
     → (offered : List ℕ → List ℕ) (cs : List (List ℕ)) → All (Fits world outer) cs
-    → joined world outer (single place) (λ c. map (placed world place) (offered c)) cs ≡ joined_rows world outer place offered cs
+    → joined world outer (single place) (λ c. map (placed world place) (offered c)) cs
+    ≡ joined_rows world outer place offered cs
 joined_rows_is world outer place out i offered [] a = refl
 joined_rows_is world outer place out i offered (c ∷ cs) a =
-    rw
-    (rows_merged world outer place out i c (All-head (Fits world outer) c cs a) (offered c), joined_rows_is world outer place out i offered cs (All-tail (Fits world outer) c cs a))
+    rw (
+      rows_merged world outer place out i c (All-head (Fits world outer) c cs a) (offered c),
+      joined_rows_is world outer place out i offered cs (All-tail (Fits world outer) c cs a),
+    )
     refl
 
 placed_offered : (world : World) → HasSoundEdges world → (outer : ℕ → Bool) (place : ℕ) → outer place ≡ false
@@ -156,12 +178,16 @@ placed_offered world sound outer place out i c f rows o = record {
   only = all_placed world sound place i rows o.only;
   once = λ d g m.
       let here = g.within place (eq-eqb place place refl) in
-      let whole : merged outer c d ≡ set c place (get_or d place 0) = ap (merged outer c) (sym (placed_row world place i d g)) ∙ merged_placed world outer place out i c f (get_or d place 0) in
+      let whole : merged outer c d ≡ set c place (get_or d place 0) =
+      ap (merged outer c) (sym (placed_row world place i d g))
+      ∙ merged_placed world outer place out i c f (get_or d place 0) in
       times_placed world place i d g rows
-      ∙ o.once (get_or d place 0) here.0 here.1 (ap (edges_hold world (edges_between world outer (single place))) (sym whole) ∙ m);
+      ∙ o.once (get_or d place 0) here.0 here.1 (ap (edges_hold world (edges_between world outer (single place)))
+      (sym whole) ∙ m);
 }
 
--- The join by a place: where each combination of the outer side stands once, and each is offered the rows that it may be
+-- The join by a place: where each combination of the outer side stands once, and each is offered the rows that it may
+-- be
 -- joined with, each combination of the outer side's places and this one stands once in what is made.
 pub joined_rows_once : (world : World) → HasSoundEdges world → (outer : ℕ → Bool) (place : ℕ) → outer place ≡ false
     → place < world.places → (offered : List ℕ → List ℕ) (cs : List (List ℕ))
@@ -169,7 +195,8 @@ pub joined_rows_once : (world : World) → HasSoundEdges world → (outer : ℕ 
     → Once world (either outer (single place)) (joined_rows world outer place offered cs)
 joined_rows_once world sound outer place out i offered cs offers o =
     subst (Once world (either outer (single place))) (joined_rows_is world outer place out i offered cs o.only)
-    (joined_once world outer (single place) (single_apart outer place out) (λ c. map (placed world place) (offered c)) cs (λ c f. placed_offered world sound outer place out i c f (offered c) (offers c f)) o)
+    (joined_once world outer (single place) (single_apart outer place out) (λ c. map (placed world place) (offered c))
+    cs (λ c f. placed_offered world sound outer place out i c f (offered c) (offers c f)) o)
 
 -- Rows once, and what is offered.
 
@@ -181,9 +208,17 @@ pub tested_rows_once : (world : World) (place : ℕ) (rows : List ℕ) (p : ℕ 
     → RowsOnce world place (filter (world.passes place) (filter p rows))
 tested_rows_once world place rows p h t = record {
   only =
-      λ k d l. (All-filter (world.passes place) (λ row. row < world.size place) (filter p rows) (All-filter p (λ row. row < world.size place) rows (all_of_same nat_eq exact_numbers (λ row. row < world.size place) (row_numbers (world.size place)) rows h (below (world.size place)))) k d l, filter_passes (world.passes place) (filter p rows) k d l);
+      λ k d l. (
+        All-filter (world.passes place) (λ row. row < world.size place) (filter p rows)
+            (All-filter p (λ row. row < world.size place) rows
+            (all_of_same nat_eq exact_numbers (λ row. row < world.size place) (row_numbers (world.size place)) rows h
+            (below (world.size place)))) k d l,
+        filter_passes (world.passes place) (filter p rows) k d l,
+      );
   once =
-      λ row i e. times-filter nat_eq exact_numbers (world.passes place) row e (filter p rows) ∙ (times-filter nat_eq exact_numbers p row (t row i e) rows ∙ (sym (h row) ∙ times_row_numbers (world.size place) row i));
+      λ row i e. times-filter nat_eq exact_numbers (world.passes place) row e (filter p rows)
+      ∙ (times-filter nat_eq exact_numbers p row (t row i e) rows
+      ∙ (sym (h row) ∙ times_row_numbers (world.size place) row i));
 }
 
 -- the scan
@@ -191,9 +226,14 @@ pub scanned_once : (world : World) (place : ℕ)
     → RowsOnce world place (filter (world.passes place) (row_numbers (world.size place)))
 scanned_once world place = record {
   only =
-      λ k d l. (All-filter (world.passes place) (λ row. row < world.size place) (row_numbers (world.size place)) (below (world.size place)) k d l, filter_passes (world.passes place) (row_numbers (world.size place)) k d l);
+      λ k d l. (
+        All-filter (world.passes place) (λ row. row < world.size place) (row_numbers (world.size place))
+            (below (world.size place)) k d l,
+        filter_passes (world.passes place) (row_numbers (world.size place)) k d l,
+      );
   once =
-      λ row i e. times-filter nat_eq exact_numbers (world.passes place) row e (row_numbers (world.size place)) ∙ times_row_numbers (world.size place) row i;
+      λ row i e. times-filter nat_eq exact_numbers (world.passes place) row e (row_numbers (world.size place))
+      ∙ times_row_numbers (world.size place) row i;
 }
 
 -- all rows that meet the predicates: the nested loop
@@ -204,7 +244,8 @@ all_rows_offered world outer place c rows o = record { only = o.only; once = λ 
 -- of these, those that pass a test which all pass that meet the edges by which the place enters: the hash join
 pub passing_rows_offered : (world : World) (outer : ℕ → Bool) (place : ℕ) (c rows : List ℕ) (p : ℕ → Bool)
     → RowsOnce world place rows
-    → ((row : ℕ) → row < world.size place → world.passes place row ≡ true → edges_hold world (edges_between world outer (single place)) (set c place row) ≡ true → p row ≡ true)
+    → ((row : ℕ) → row < world.size place → world.passes place row ≡ true
+    → edges_hold world (edges_between world outer (single place)) (set c place row) ≡ true → p row ≡ true)
     → OffersRows world outer place c (filter p rows)
 passing_rows_offered world outer place c rows p o h = record {
   only = All-filter p (λ row. (row < world.size place) × (world.passes place row ≡ true)) rows o.only;
@@ -214,19 +255,32 @@ passing_rows_offered world outer place c rows p o h = record {
 -- rows in any order, of which those stay that pass such a test and then meet the predicates: the index probe
 pub tested_rows_offered : (world : World) (outer : ℕ → Bool) (place : ℕ) (c rows : List ℕ) (p : ℕ → Bool)
     → HaveSame nat_eq (row_numbers (world.size place)) rows
-    → ((row : ℕ) → row < world.size place → world.passes place row ≡ true → edges_hold world (edges_between world outer (single place)) (set c place row) ≡ true → p row ≡ true)
+    → ((row : ℕ) → row < world.size place → world.passes place row ≡ true
+    → edges_hold world (edges_between world outer (single place)) (set c place row) ≡ true → p row ≡ true)
     → OffersRows world outer place c (filter (world.passes place) (filter p rows))
 tested_rows_offered world outer place c rows p h t = record {
   only =
-      λ k d l. (All-filter (world.passes place) (λ row. row < world.size place) (filter p rows) (All-filter p (λ row. row < world.size place) rows (all_of_same nat_eq exact_numbers (λ row. row < world.size place) (row_numbers (world.size place)) rows h (below (world.size place)))) k d l, filter_passes (world.passes place) (filter p rows) k d l);
+      λ k d l. (
+        All-filter (world.passes place) (λ row. row < world.size place) (filter p rows)
+            (All-filter p (λ row. row < world.size place) rows
+            (all_of_same nat_eq exact_numbers (λ row. row < world.size place) (row_numbers (world.size place)) rows h
+            (below (world.size place)))) k d l,
+        filter_passes (world.passes place) (filter p rows) k d l,
+      );
   once =
-      λ row i e m. times-filter nat_eq exact_numbers (world.passes place) row e (filter p rows) ∙ (times-filter nat_eq exact_numbers p row (t row i e m) rows ∙ (sym (h row) ∙ times_row_numbers (world.size place) row i));
+      λ row i e m. times-filter nat_eq exact_numbers (world.passes place) row e (filter p rows)
+      ∙ (times-filter nat_eq exact_numbers p row (t row i e m) rows
+      ∙ (sym (h row) ∙ times_row_numbers (world.size place) row i));
 }
 
 -- none, where no row of the place may be joined with it
 pub no_rows_offered : (world : World) (outer : ℕ → Bool) (place : ℕ) (c : List ℕ)
-    → ((row : ℕ) → row < world.size place → world.passes place row ≡ true → edges_hold world (edges_between world outer (single place)) (set c place row) ≡ true → ⊥)
+    → ((row : ℕ) → row < world.size place → world.passes place row ≡ true
+    → edges_hold world (edges_between world outer (single place)) (set c place row) ≡ true → ⊥)
     → OffersRows world outer place c []
 no_rows_offered world outer place c h =
-    record
-    { only = All-nil (λ row. (row < world.size place) × (world.passes place row ≡ true)); once = λ row i e m. absurd (h row i e m) }
+    record {
+      only = All-nil (λ row. (row < world.size place) × (world.passes place row ≡ true));
+      once =
+          λ row i e m. absurd (h row i e m);
+    }

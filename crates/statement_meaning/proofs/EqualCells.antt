@@ -32,8 +32,12 @@ equal_cells (Some (Int a)) (Some (Int b)) h =
     record
     { value = Int a; first = refl; second = ap (λ n. Some (Int n)) (sym (exact_signed a b (equal_of (int_cmp a b) h))) }
 equal_cells (Some (Text a)) (Some (Text b)) h =
-    record
-    { value = Text a; first = refl; second = ap (λ n. Some (Text n)) (sym (exact_bytes a b (equal_of (slice_cmp nat_cmp a b) h))) }
+    record {
+      value = Text a;
+      first = refl;
+      second =
+          ap (λ n. Some (Text n)) (sym (exact_bytes a b (equal_of (slice_cmp nat_cmp a b) h)));
+    }
 equal_cells (Some (Int a)) (Some (Text b)) h = absurd (false≢true h)
 equal_cells (Some (Text a)) (Some (Int b)) h = absurd (false≢true h)
 
@@ -67,7 +71,13 @@ equal_exactly same e a b = by_test (same a b) refl (compares is_eq (Some b) (Som
     by_test false h false k = h ∙ sym k
     by_test true h false k =
         absurd
-        (false≢true (sym k ∙ cells_equal (Some b) (Some a) (record { value = a; first = ap (λ v. Some v) (sym (e.one a b h)); second = refl })))
+        (false≢true (sym k
+        ∙ cells_equal (Some b) (Some a) (record {
+          value = a;
+          first = ap (λ v. Some v) (sym (e.one a b h));
+          second =
+              refl;
+        })))
     by_test false h true k =
         let one = equal_cells (Some b) (Some a) k in
         let both : a ≡ b = cc (one.first, one.second) in
@@ -76,7 +86,8 @@ equal_exactly same e a b = by_test (same a b) refl (compares is_eq (Some b) (Som
 -- what has the key, and with no key nothing
 pub found_by_key : {X : Type 0} (same : Value → Value → Bool) → IsExact same
     → (cell : X → Option Value) (key : Value) (xs : List X)
-    → filter (λ x. option_map_or (λ value. same value key) (cell x) false) xs ≡ filter (λ x. compares is_eq (Some key) (cell x)) xs
+    → filter (λ x. option_map_or (λ value. same value key) (cell x) false) xs
+    ≡ filter (λ x. compares is_eq (Some key) (cell x)) xs
 found_by_key same e cell key xs =
     filter_agree (λ x. option_map_or (λ value. same value key) (cell x) false) (λ x. compares is_eq (Some key) (cell x))
     (λ x. by_cell (cell x)) xs

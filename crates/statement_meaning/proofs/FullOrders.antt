@@ -20,7 +20,8 @@ use Rattle.statement_meaning.specs.PartialCombinations.{is_same}
 use Rattle.row_values.specs.Sorting.{put_in, in_order, Rises}
 use Rattle.row_values.proofs.Counting.{exact_lists}
 use Rattle.row_values.proofs.TotalOrders.{cell_order_total}
-use Rattle.row_values.proofs.InOrder.{IsFullOrder, full_order_from, all_put, all_in_order, rises_in_order, risen_is_sorted, times_in_order, sorted_is}
+use Rattle.row_values.proofs.InOrder.{IsFullOrder, full_order_from, all_put, all_in_order, rises_in_order}
+use Rattle.row_values.proofs.InOrder.{risen_is_sorted, times_in_order, sorted_is}
 
 equal_total : IsTotalOrder (λ (a : List ℕ) (b : List ℕ). Equal)
 equal_total = record { antisymm = λ a b. refl; trans = λ a b c h k. h; congr = λ a b c h. refl }
@@ -32,7 +33,8 @@ key_total tables key = by_way key.descending
     up = on_total (λ (c : List ℕ). cell_of tables c key.at) cell_order_total
 
     by_way : (descending : Bool)
-        → IsTotalOrder (λ (a : List ℕ) (b : List ℕ). cond descending (column_order tables key.at b a) (column_order tables key.at a b))
+        → IsTotalOrder (λ (a : List ℕ) (b : List ℕ). cond descending (column_order tables key.at b a)
+        (column_order tables key.at a b))
     by_way true = back_total up
     by_way false = up
 
@@ -87,11 +89,20 @@ put_stable tables keys x (y ∷ ys) r a =
     by_test : (b : Bool) → is_before tables keys y x ≡ b
         → Rises (is_earlier tables keys) (put_in (is_before tables keys) x ys)
         → Rises (is_earlier tables keys) (cond b (y ∷ put_in (is_before tables keys) x ys) (x ∷ (y ∷ ys)))
-    by_test true e more =
-        (all_put (is_before tables keys) (λ z. is_earlier tables keys z y ≡ false) x ys (turned (keys_order tables keys x y) (keys_order tables keys y x) (slice_cmp nat_cmp x y) ((keys_total tables keys).antisymm x y) e) r.0, more)
+    by_test true e more = (
+      all_put (is_before tables keys) (λ z. is_earlier tables keys z y
+          ≡ false) x ys (turned (keys_order tables keys x y) (keys_order tables keys y x) (slice_cmp nat_cmp x y)
+          ((keys_total tables keys).antisymm x y) e) r.0,
+      more,
+    )
     by_test false e more =
-        let first : is_earlier tables keys y x ≡ false = not_both (keys_order tables keys y x) (slice_cmp nat_cmp y x) e (All-head (λ z. is_lower z x ≡ false) y ys a) in
-        (All-cons (λ z. is_earlier tables keys z x ≡ false) y ys first (λ i d h. (earlier_full tables keys).ranks.chain _ y x (r.0 i d h) first), r)
+        let first : is_earlier tables keys y x ≡ false =
+        not_both (keys_order tables keys y x) (slice_cmp nat_cmp y x) e (All-head (λ z. is_lower z x
+        ≡ false) y ys a) in (
+          All-cons (λ z. is_earlier tables keys z x
+              ≡ false) y ys first (λ i d h. (earlier_full tables keys).ranks.chain _ y x (r.0 i d h) first),
+          r,
+        )
 
 pub rises_stable : (tables : List (List (List Value))) (keys : List OrderKey) (xs : List (List ℕ)) → Rises is_lower xs
     → Rises (is_earlier tables keys) (in_order (is_before tables keys) xs)
@@ -106,7 +117,8 @@ pub one_sort : (tables : List (List (List Value))) (keys : List OrderKey) (cs : 
 one_sort tables keys cs =
     risen_is_sorted is_same exact_lists (is_earlier tables keys) (earlier_full tables keys) cs
     (in_order (is_before tables keys) (in_order is_lower cs))
-    (λ c. times_in_order is_same (is_before tables keys) (in_order is_lower cs) c ∙ times_in_order is_same is_lower cs c)
+    (λ c. times_in_order is_same (is_before tables keys) (in_order is_lower cs) c
+    ∙ times_in_order is_same is_lower cs c)
     (rises_stable tables keys (in_order is_lower cs) (rises_in_order is_lower lower_full.ranks cs))
 
 -- so std's sort by both, stable or not, gives the stable order of the meaning

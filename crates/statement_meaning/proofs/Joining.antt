@@ -1,15 +1,18 @@
 -- The join of two lists that have each combination of their side once has each combination of both sides once.
-use Rattle.std.proofs.Common.{ℕ, ◌≡◌, ◌<◌, ◌+◌, suc, Bool, true, false, ◌&&◌, ◌||◌, List, [], ◌∷◌, length, get_or, map, cond, ap, sym, ◌∙◌, refl, arith}
+use Rattle.std.proofs.Common.{ℕ, ◌≡◌, ◌<◌, ◌+◌, suc, Bool, true, false, ◌&&◌, ◌||◌, List, [], ◌∷◌, length, get_or, map}
+use Rattle.std.proofs.Common.{cond, ap, sym, ◌∙◌, refl, arith}
 use Rattle.std.specs.Prelude.{filter, All}
 use Rattle.std.proofs.lemmas.Bool.{false≢true, or_left, or_right, or_parts}
 use Rattle.std.proofs.lemmas.List.{ext_get_or}
 use Rattle.std.proofs.lemmas.List.Elements.{All-nil, All-cons, All-head, All-tail, All-append, All-filter}
 use Rattle.row_values.specs.declared.statement.Edge.{Edge}
 use Rattle.statement_meaning.specs.Combinations.{World, edge_holds, edges_hold}
-use Rattle.statement_meaning.specs.PartialCombinations.{either, AreApart, is_inside, is_between, edges_inside, edges_between, Fits, is_same, Once, merged, joined, Offers}
+use Rattle.statement_meaning.specs.PartialCombinations.{either, AreApart, is_inside, is_between, edges_inside}
+use Rattle.statement_meaning.specs.PartialCombinations.{edges_between, Fits, is_same, Once, merged, joined, Offers}
 use Rattle.row_values.specs.Sorting.{times}
 use Rattle.row_values.proofs.Counting.{exact_lists, times-append, times-filter}
-use Rattle.statement_meaning.proofs.Merging.{length-merged, merged_first, merged_second, restricted, length-restricted, restricted_in, restricted_out}
+use Rattle.statement_meaning.proofs.Merging.{length-merged, merged_first, merged_second, restricted, length-restricted}
+use Rattle.statement_meaning.proofs.Merging.{restricted_in, restricted_out}
 
 -- Edges.
 
@@ -26,7 +29,8 @@ and_true false = refl
 -- an edge whose ends are in both sets together: in the one, in the other, or between
 split_edge : (a b x y h h1 h2 : Bool) → (a ≡ true → x ≡ false) → (b ≡ true → y ≡ false) → (a ≡ true → b ≡ true → h1 ≡ h)
     → (x ≡ true → y ≡ true → h2 ≡ h) →
-    cond ((a || x) && (b || y)) h true ≡ ((cond (a && b) h1 true && cond (x && y) h2 true) && cond ((a && y) || (b && x)) h true)
+    cond ((a || x) && (b || y)) h true
+    ≡ ((cond (a && b) h1 true && cond (x && y) h2 true) && cond ((a && y) || (b && x)) h true)
 split_edge true b true y h h1 h2 p q f g = absurd (false≢true (sym (p refl)))
 split_edge a true x true h h1 h2 p q f g = absurd (false≢true (sym (q refl)))
 split_edge true true false false h h1 h2 p q f g = rw (f refl refl) (sym (and_true (h && true) ∙ and_true h))
@@ -63,7 +67,9 @@ edge_agrees world places c d h edge l r =
 -- the edges inside two sets together are those inside the one, those inside the other and those between
 split_edges : (world : World) (outer inner : ℕ → Bool) → AreApart outer inner → (c c1 c2 : List ℕ) → AgreeOn outer c1 c
     → AgreeOn inner c2 c → (es : List Edge) →
-    edges_hold world (filter (is_inside (either outer inner)) es) c ≡ ((edges_hold world (filter (is_inside outer) es) c1 && edges_hold world (filter (is_inside inner) es) c2) && edges_hold world (filter (is_between outer inner) es) c)
+    edges_hold world (filter (is_inside (either outer inner)) es) c
+    ≡ ((edges_hold world (filter (is_inside outer) es) c1 && edges_hold world (filter (is_inside inner) es) c2)
+    && edges_hold world (filter (is_between outer inner) es) c)
 split_edges world outer inner apart c c1 c2 h1 h2 [] = refl
 split_edges world outer inner apart c c1 c2 h1 h2 (edge ∷ es) =
     let a = outer edge.left.place in
@@ -80,7 +86,8 @@ split_edges world outer inner apart c c1 c2 h1 h2 (edge ∷ es) =
           (edge_agrees world inner c2 c h2 edge),
       split_edges world outer inner apart c c1 c2 h1 h2 es,
     )
-    (six (cond (a && b) (edge_holds world edge c1) true) (cond (x && y) (edge_holds world edge c2) true) (cond ((a && y) || (b && x)) (edge_holds world edge c) true)
+    (six (cond (a && b) (edge_holds world edge c1) true) (cond (x && y) (edge_holds world edge c2) true)
+    (cond ((a && y) || (b && x)) (edge_holds world edge c) true)
     (edges_hold world (filter (is_inside outer) es) c1) (edges_hold world (filter (is_inside inner) es) c2)
     (edges_hold world (filter (is_between outer inner) es) c))
 
@@ -122,10 +129,13 @@ parts world outer inner apart c f = record {
     three true false z h = absurd (false≢true h)
     three false y z h = absurd (false≢true h)
 
-    met : (edges_hold world (edges_inside world outer) (restricted outer c) ≡ true) × (edges_hold world (edges_inside world inner) (restricted inner c) ≡ true) × (edges_hold world (edges_between world outer inner) c ≡ true)
+    met : (edges_hold world (edges_inside world outer) (restricted outer c) ≡ true)
+        × (edges_hold world (edges_inside world inner) (restricted inner c) ≡ true)
+        × (edges_hold world (edges_between world outer inner) c ≡ true)
     met =
         three _ _ _
-        (sym (split_edges world outer inner apart c (restricted outer c) (restricted inner c) (restricted_in outer c) (restricted_in inner c) world.edges) ∙ f.met)
+        (sym (split_edges world outer inner apart c (restricted outer c) (restricted inner c) (restricted_in outer c)
+        (restricted_in inner c) world.edges) ∙ f.met)
 
 -- and combinations that fit each set fit both together where they meet the edges between
 pub merged_fits : (world : World) (outer inner : ℕ → Bool) → AreApart outer inner → (c d : List ℕ) → Fits world outer c
@@ -135,9 +145,11 @@ merged_fits world outer inner apart c d f g h = record {
   long = length-merged outer c d l ∙ f.long;
   within = λ place e. by_side place e (outer place) refl;
   zeros =
-      λ place e. let no = or_parts (outer place) (inner place) e in merged_second outer c d l place no.0 ∙ g.zeros place no.1;
+      λ place e. let no = or_parts (outer place) (inner place) e in merged_second outer c d l place no.0
+      ∙ g.zeros place no.1;
   met =
-      split_edges world outer inner apart (merged outer c d) c d (λ place e. sym (merged_first outer c d l place e)) (λ place e. sym (merged_second outer c d l place (swap_apart outer inner apart place e))) world.edges
+      split_edges world outer inner apart (merged outer c d) c d (λ place e. sym (merged_first outer c d l place e))
+      (λ place e. sym (merged_second outer c d l place (swap_apart outer inner apart place e))) world.edges
       ∙ rw (f.met, g.met, h) refl;
 }
   where
@@ -145,7 +157,8 @@ merged_fits world outer inner apart c d f g h = record {
     l = f.long ∙ sym g.long
 
     by_side : (place : ℕ) → either outer inner place ≡ true → (b : Bool) → outer place ≡ b
-        → (get_or (merged outer c d) place 0 < world.size place) × (world.passes place (get_or (merged outer c d) place 0) ≡ true)
+        → (get_or (merged outer c d) place 0 < world.size place)
+        × (world.passes place (get_or (merged outer c d) place 0) ≡ true)
     by_side place e true k = rw (merged_first outer c d l place k) (f.within place k)
     by_side place e false k =
         rw (merged_second outer c d l place k) (g.within place (ap (λ (b : Bool). b || inner place) (sym k) ∙ e))
@@ -214,7 +227,8 @@ same_merged world outer inner apart e fe c d f g = by_whole (is_same e (merged o
     by_parts true p true q n =
         let one : restricted outer e ≡ c = exact_lists.one (restricted outer e) c p in
         let two : restricted inner e ≡ d = exact_lists.one (restricted inner e) d q in
-        let whole : merged outer c d ≡ e = ap (λ (z : List ℕ). merged outer z d) (sym one) ∙ (ap (merged outer (restricted outer e)) (sym two) ∙ merged_parts world outer inner e fe) in
+        let whole : merged outer c d ≡ e = ap (λ (z : List ℕ). merged outer z d) (sym one)
+        ∙ (ap (merged outer (restricted outer e)) (sym two) ∙ merged_parts world outer inner e fe) in
         absurd (false≢true (sym n ∙ (ap (is_same e) whole ∙ exact_lists.itself e)))
     by_parts true p false q n = refl
     by_parts false p y q n = refl
@@ -223,8 +237,10 @@ same_merged world outer inner apart e fe c d f g = by_whole (is_same e (merged o
         → is_same e (merged outer c d) ≡ (is_same (restricted outer e) c && is_same (restricted inner e) d)
     by_whole true k =
         let whole : e ≡ merged outer c d = exact_lists.one e (merged outer c d) k in
-        let one : restricted outer e ≡ c = ap (restricted outer) whole ∙ first_of_merged world outer inner apart c d f g in
-        let two : restricted inner e ≡ d = ap (restricted inner) whole ∙ second_of_merged world outer inner apart c d f g in
+        let one : restricted outer e ≡ c = ap (restricted outer) whole ∙ first_of_merged world outer inner apart c d f g
+        in
+        let two : restricted inner e ≡ d = ap (restricted inner) whole
+        ∙ second_of_merged world outer inner apart c d f g in
         k ∙ sym (rw (one, two, exact_lists.itself c, exact_lists.itself d) refl)
     by_whole false k = k ∙ by_parts (is_same (restricted outer e) c) refl (is_same (restricted inner e) d) refl k
 
@@ -232,12 +248,15 @@ same_merged world outer inner apart e fe c d f g = by_whole (is_same e (merged o
 times_merged : (world : World) (outer inner : ℕ → Bool) → AreApart outer inner → (e : List ℕ)
     → Fits world (either outer inner) e → (c : List ℕ) → Fits world outer c → (ds : List (List ℕ))
     → All (Fits world inner) ds →
-    times is_same e (map (merged outer c) ds) ≡ cond (is_same (restricted outer e) c) (times is_same (restricted inner e) ds) 0
+    times is_same e (map (merged outer c) ds)
+    ≡ cond (is_same (restricted outer e) c) (times is_same (restricted inner e) ds) 0
 times_merged world outer inner apart e fe c f [] a =
     elim (is_same (restricted outer e) c) as (λ b. ◌≡◌ {A = ℕ} 0 (cond b 0 0)) [ true ↦ refl | false ↦ refl ]
 times_merged world outer inner apart e fe c f (d ∷ ds) a =
-    rw
-    (same_merged world outer inner apart e fe c d f (All-head (Fits world inner) d ds a), times_merged world outer inner apart e fe c f ds (All-tail (Fits world inner) d ds a))
+    rw (
+      same_merged world outer inner apart e fe c d f (All-head (Fits world inner) d ds a),
+      times_merged world outer inner apart e fe c f ds (All-tail (Fits world inner) d ds a),
+    )
     (by_tests (is_same (restricted outer e) c) (is_same (restricted inner e) d) (times is_same (restricted inner e) ds))
   where
     by_tests : (x y : Bool) (n : ℕ)
@@ -249,7 +268,8 @@ times_merged world outer inner apart e fe c f (d ∷ ds) a =
 times_piece : (world : World) (outer inner : ℕ → Bool) → AreApart outer inner → (e : List ℕ)
     → Fits world (either outer inner) e → (c : List ℕ) → Fits world outer c → (ds : List (List ℕ))
     → Offers world outer inner c ds →
-    times is_same e (filter (edges_hold world (edges_between world outer inner)) (map (merged outer c) ds)) ≡ cond (is_same (restricted outer e) c) 1 0
+    times is_same e (filter (edges_hold world (edges_between world outer inner)) (map (merged outer c) ds))
+    ≡ cond (is_same (restricted outer e) c) 1 0
 times_piece world outer inner apart e fe c f ds o =
     times-filter is_same exact_lists (edges_hold world (edges_between world outer inner)) e p.between
     (map (merged outer c) ds)
@@ -261,7 +281,9 @@ times_piece world outer inner apart e fe c f ds o =
     by_test : (b : Bool) → is_same (restricted outer e) c ≡ b
         → ◌≡◌ {A = ℕ} (cond b (times is_same (restricted inner e) ds) 0) (cond b 1 0)
     by_test true k =
-        let whole : merged outer c (restricted inner e) ≡ e = ap (λ (z : List ℕ). merged outer z (restricted inner e)) (sym (exact_lists.one (restricted outer e) c k)) ∙ merged_parts world outer inner e fe in
+        let whole : merged outer c (restricted inner e) ≡ e =
+        ap (λ (z : List ℕ). merged outer z (restricted inner e)) (sym (exact_lists.one (restricted outer e) c k))
+        ∙ merged_parts world outer inner e fe in
         o.once (restricted inner e) p.second (ap (edges_hold world (edges_between world outer inner)) whole ∙ p.between)
     by_test false k = refl
 
@@ -275,22 +297,32 @@ times_joined world outer inner apart offered offers e fe (c ∷ cs) a =
     times-append is_same e
     (filter (edges_hold world (edges_between world outer inner)) (map (merged outer c) (offered c)))
     (joined world outer inner offered cs)
-    ∙ rw (times_piece world outer inner apart e fe c f (offered c) (offers c f), times_joined world outer inner apart offered offers e fe cs (All-tail (Fits world outer) c cs a))
-    (elim (is_same (restricted outer e) c) as (λ b. ◌≡◌ {A = ℕ} (cond b 1 0 + times is_same (restricted outer e) cs) (cond b (suc (times is_same (restricted outer e) cs)) (times is_same (restricted outer e) cs))) [ true ↦ omega arith | false ↦ omega arith ])
+    ∙ rw (
+      times_piece world outer inner apart e fe c f (offered c) (offers c f),
+      times_joined world outer inner apart
+          offered offers e fe cs (All-tail (Fits world outer) c cs a),
+    )
+    (elim (is_same (restricted outer e) c) as (λ b. ◌≡◌ {A = ℕ} (cond b 1 0 + times is_same (restricted outer e) cs)
+    (cond b (suc (times is_same (restricted outer e) cs)) (times is_same (restricted outer e) cs)))
+    [ true ↦ omega arith | false ↦ omega arith ])
 
 -- each of what is made fits both sides
 piece_fits : (world : World) (outer inner : ℕ → Bool) → AreApart outer inner → (c : List ℕ) → Fits world outer c
     → (ds : List (List ℕ)) → All (Fits world inner) ds
-    → All (Fits world (either outer inner)) (filter (edges_hold world (edges_between world outer inner)) (map (merged outer c) ds))
+    → All (Fits world (either outer inner)) (filter (edges_hold world (edges_between world outer inner))
+    (map (merged outer c) ds))
 piece_fits world outer inner apart c f [] a = All-nil (Fits world (either outer inner))
 piece_fits world outer inner apart c f (d ∷ ds) a =
     by_test (edges_hold world (edges_between world outer inner) (merged outer c d)) refl
     (piece_fits world outer inner apart c f ds (All-tail (Fits world inner) d ds a))
   where
     by_test : (b : Bool) → edges_hold world (edges_between world outer inner) (merged outer c d) ≡ b
-        → All (Fits world (either outer inner)) (filter (edges_hold world (edges_between world outer inner)) (map (merged outer c) ds)) →
+        → All (Fits world (either outer inner)) (filter (edges_hold world (edges_between world outer inner))
+        (map (merged outer c) ds)) →
         All (Fits world (either outer inner))
-        (cond b (merged outer c d ∷ filter (edges_hold world (edges_between world outer inner)) (map (merged outer c) ds)) (filter (edges_hold world (edges_between world outer inner)) (map (merged outer c) ds)))
+        (cond b (merged outer c d ∷ filter (edges_hold world (edges_between world outer inner))
+        (map (merged outer c) ds)) (filter (edges_hold world (edges_between world outer inner))
+        (map (merged outer c) ds)))
     by_test true k more =
         All-cons (Fits world (either outer inner)) (merged outer c d) _
         (merged_fits world outer inner apart c d f (All-head (Fits world inner) d ds a) k) more
@@ -315,7 +347,8 @@ pub joined_once : (world : World) (outer inner : ℕ → Bool) → AreApart oute
 joined_once world outer inner apart offered cs offers o = record {
   only = joined_fits world outer inner apart offered offers cs o.only;
   once =
-      λ e fe. times_joined world outer inner apart offered offers e fe cs o.only ∙ o.once (restricted outer e) (parts world outer inner apart e fe).first;
+      λ e fe. times_joined world outer inner apart offered offers e fe cs o.only
+      ∙ o.once (restricted outer e) (parts world outer inner apart e fe).first;
 }
 
 -- What is offered.
@@ -329,7 +362,8 @@ all_offered world outer inner c ds o = record { only = o.only; once = λ d g h. 
 -- that looks a key up
 pub passing_offered : (world : World) (outer inner : ℕ → Bool) (c : List ℕ) (ds : List (List ℕ)) (p : List ℕ → Bool)
     → Once world inner ds
-    → ((d : List ℕ) → Fits world inner d → edges_hold world (edges_between world outer inner) (merged outer c d) ≡ true → p d ≡ true)
+    → ((d : List ℕ) → Fits world inner d → edges_hold world (edges_between world outer inner) (merged outer c d) ≡ true
+    → p d ≡ true)
     → Offers world outer inner c (filter p ds)
 passing_offered world outer inner c ds p o h = record {
   only = All-filter p (Fits world inner) ds o.only;
@@ -338,6 +372,7 @@ passing_offered world outer inner c ds p o h = record {
 
 -- nothing, where no combination of the inner side meets the edges between with this one
 pub none_offered : (world : World) (outer inner : ℕ → Bool) (c : List ℕ)
-    → ((d : List ℕ) → Fits world inner d → edges_hold world (edges_between world outer inner) (merged outer c d) ≡ true → ⊥)
+    → ((d : List ℕ) → Fits world inner d → edges_hold world (edges_between world outer inner) (merged outer c d) ≡ true
+    → ⊥)
     → Offers world outer inner c []
 none_offered world outer inner c h = record { only = All-nil (Fits world inner); once = λ d g m. absurd (h d g m) }

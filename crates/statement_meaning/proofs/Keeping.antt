@@ -1,6 +1,7 @@
 -- The kept combinations are those over all places, each once; and lists that have each once are the same but for their
 -- order.
-use Rattle.std.proofs.Common.{ℕ, ◌≡◌, ◌<◌, ◌+◌, suc, zero, Bool, true, false, ◌&&◌, ◌==◌, List, [], ◌∷◌, length, get_or, map, cond, ap, sym, ◌∙◌, refl, arith, subst, add-zero, zero-add}
+use Rattle.std.proofs.Common.{ℕ, ◌≡◌, ◌<◌, ◌+◌, suc, zero, Bool, true, false, ◌&&◌, ◌==◌, List, [], ◌∷◌, length, get_or}
+use Rattle.std.proofs.Common.{map, cond, ap, sym, ◌∙◌, refl, arith, subst, add-zero, zero-add}
 use Rattle.std.specs.Prelude.{filter, flat_map, All, IsPermutation, IsSome, nat_eq}
 use Rattle.std.proofs.lemmas.Bool.{false≢true, and_parts, ltb-true, ltb-false, lt-ltb, ne_eqb}
 use Rattle.std.proofs.lemmas.List.{get_or_past}
@@ -11,11 +12,13 @@ use Rattle.row_values.specs.declared.statement.ColRef.{ColRef}
 use Rattle.row_values.specs.declared.statement.Edge.{Edge}
 use Rattle.row_values.specs.declared.statement.Place.{Place}
 use Rattle.row_values.specs.RowNumbers.{row_numbers}
-use Rattle.statement_meaning.specs.Combinations.{World, combinations, sizes_from, rows_pass, edges_hold, keeps, kept, world_of}
+use Rattle.statement_meaning.specs.Combinations.{World, combinations, sizes_from, rows_pass, edges_hold, keeps, kept}
+use Rattle.statement_meaning.specs.Combinations.{world_of}
 use Rattle.statement_meaning.specs.Meaning.{is_lower, rows_shown, shape_of, meaning_of}
 use Rattle.statement_meaning.specs.PartialCombinations.{all_places, HasSoundEdges, is_inside, Fits, is_same, Once}
 use Rattle.row_values.specs.Sorting.{in_order, times}
-use Rattle.row_values.proofs.Counting.{exact_lists, HaveSame, times-append, times-filter, times_row_numbers, times_all, all_of_same, same_from_permutation}
+use Rattle.row_values.proofs.Counting.{exact_lists, HaveSame, times-append, times-filter, times_row_numbers, times_all}
+use Rattle.row_values.proofs.Counting.{all_of_same, same_from_permutation}
 use Rattle.statement_meaning.proofs.FullOrders.{lower_full}
 use Rattle.row_values.proofs.InOrder.{in_order_same, times_in_order}
 use Rattle.statement_meaning.proofs.KeptOrder.{InBox, all_box, in_order-kept}
@@ -50,8 +53,12 @@ all_inside : (world : World) (es : List Edge)
 all_inside world [] a = refl
 all_inside world (edge ∷ es) a =
     let here = All-head (λ edge. (edge.left.place < world.places) × (edge.right.place < world.places)) edge es a in
-    rw
-    (lt-ltb edge.left.place world.places here.0, lt-ltb edge.right.place world.places here.1, all_inside world es (All-tail (λ edge. (edge.left.place < world.places) × (edge.right.place < world.places)) edge es a))
+    rw (
+      lt-ltb edge.left.place world.places here.0,
+      lt-ltb edge.right.place world.places here.1,
+      all_inside world es (All-tail (λ edge. (edge.left.place < world.places)
+          × (edge.right.place < world.places)) edge es a),
+    )
     refl
 
 -- Combinations within the sizes, whose rows pass.
@@ -68,7 +75,8 @@ good_box world zero t (row ∷ rows) l h = absurd (omega (arith, l))
 good_box world (suc n) t [] l h = absurd (omega (arith, l))
 good_box world (suc n) t (row ∷ rows) l h =
     let one : IsGood world t row = rw add-zero at (h zero (omega arith)) in
-    let more = good_box world n (suc t) rows (omega (arith, l)) (λ i k. let e : t + suc i ≡ suc t + i = omega arith in rw e at (h (suc i) (omega (arith, k)))) in
+    let more = good_box world n (suc t) rows (omega (arith, l)) (λ i k. let e : t + suc i ≡ suc t + i =
+    omega arith in rw e at (h (suc i) (omega (arith, k)))) in
     ((one.0, more.0), rw (one.1, more.1) refl)
 
 box_good : (world : World) (n t : ℕ) (c : List ℕ) → InBox (sizes_from world t n) c → rows_pass world t c ≡ true
@@ -92,14 +100,20 @@ front_times : (r : ℕ) (c : List ℕ) (q : ℕ) (cs : List (List ℕ))
     → times is_same (r ∷ c) (map (λ d. q ∷ d) cs) ≡ cond (r == q) (times is_same c cs) 0
 front_times r c q [] = elim (r == q) as (λ b. ◌≡◌ {A = ℕ} 0 (cond b 0 0)) [ true ↦ refl | false ↦ refl ]
 front_times r c q (d ∷ ds) =
-    rw (front_times r c q ds) (elim (r == q) as (λ b. ◌≡◌ {A = ℕ} (cond (b && is_same c d) (suc (cond b (times is_same c ds) 0)) (cond b (times is_same c ds) 0)) (cond b (cond (is_same c d) (suc (times is_same c ds)) (times is_same c ds)) 0)) [ true ↦ refl | false ↦ refl ])
+    rw (front_times r c q ds)
+    (elim (r == q) as (λ b. ◌≡◌ {A =
+    ℕ} (cond (b && is_same c d) (suc (cond b (times is_same c ds) 0)) (cond b (times is_same c ds) 0))
+    (cond b (cond (is_same c d) (suc (times is_same c ds)) (times is_same c ds)) 0)) [ true ↦ refl | false ↦ refl ])
 
 fronts_times : (r : ℕ) (c : List ℕ) (cs : List (List ℕ)) → times is_same c cs ≡ 1 → (qs : List ℕ)
     → times is_same (r ∷ c) (flat_map (λ q. map (λ d. q ∷ d) cs) qs) ≡ times nat_eq r qs
 fronts_times r c cs h [] = refl
 fronts_times r c cs h (q ∷ qs) =
     times-append is_same (r ∷ c) (map (λ d. q ∷ d) cs) (flat_map (λ q. map (λ d. q ∷ d) cs) qs)
-    ∙ rw (front_times r c q cs, fronts_times r c cs h qs, h) (elim (r == q) as (λ b. ◌≡◌ {A = ℕ} (cond b 1 0 + times nat_eq r qs) (cond b (suc (times nat_eq r qs)) (times nat_eq r qs))) [ true ↦ omega arith | false ↦ omega arith ])
+    ∙ rw (front_times r c q cs, fronts_times r c cs h qs, h)
+    (elim (r == q) as (λ b. ◌≡◌ {A =
+    ℕ} (cond b 1 0 + times nat_eq r qs) (cond b (suc (times nat_eq r qs)) (times nat_eq r qs)))
+    [ true ↦ omega arith | false ↦ omega arith ])
 
 box_times : (ns c : List ℕ) → InBox ns c → times is_same c (combinations ns) ≡ 1
 box_times [] [] b = refl
@@ -113,12 +127,15 @@ pub kept_once : (world : World) → HasSoundEdges world → Once world (all_plac
 kept_once world sound = record {
   only = λ k d l.
       let passed = filter_passes (keeps world) (combinations (sizes_from world 0 world.places)) k d l in
-      let box = All-filter (keeps world) (InBox (sizes_from world 0 world.places)) (combinations (sizes_from world 0 world.places)) (all_box (sizes_from world 0 world.places)) k d l in
+      let box = All-filter (keeps world) (InBox (sizes_from world 0 world.places))
+      (combinations (sizes_from world 0 world.places)) (all_box (sizes_from world 0 world.places)) k d l in
       fits (get_or (kept world) k d) box passed;
   once = λ c f.
       let good = good_box world world.places 0 c f.long (λ i h. rw zero-add (f.within i (lt-ltb i world.places h))) in
-      let edges : edges_hold world world.edges c ≡ true = ap (λ (es : List Edge). edges_hold world es c) (sym (all_inside world world.edges sound.there)) ∙ f.met in
-      times-filter is_same exact_lists (keeps world) c (rw (good.1, edges) refl) (combinations (sizes_from world 0 world.places))
+      let edges : edges_hold world world.edges c ≡ true =
+      ap (λ (es : List Edge). edges_hold world es c) (sym (all_inside world world.edges sound.there)) ∙ f.met in
+      times-filter is_same exact_lists (keeps world) c (rw (good.1, edges) refl)
+      (combinations (sizes_from world 0 world.places))
       ∙ box_times (sizes_from world 0 world.places) c good.0;
 }
   where
@@ -145,9 +162,11 @@ once_same world places xs ys a b c = by_count (times is_same c xs) refl (times i
         → times is_same c xs ≡ times is_same c ys
     by_count zero e zero f = e ∙ sym f
     by_count (suc m) e n f =
-        let fit : Fits world places c = times_all is_same exact_lists (Fits world places) c m xs a.only e in a.once c fit ∙ sym (b.once c fit)
+        let fit : Fits world places c = times_all is_same exact_lists (Fits world places) c m xs a.only e
+        in a.once c fit ∙ sym (b.once c fit)
     by_count zero e (suc n) f =
-        let fit : Fits world places c = times_all is_same exact_lists (Fits world places) c n ys b.only f in a.once c fit ∙ sym (b.once c fit)
+        let fit : Fits world places c = times_all is_same exact_lists (Fits world places) c n ys b.only f
+        in a.once c fit ∙ sym (b.once c fit)
 
 -- and a list with the same elements is another
 pub once_of_same : (world : World) (places : ℕ → Bool) (xs ys : List (List ℕ)) → HaveSame is_same xs ys
@@ -176,7 +195,8 @@ once_places world places others h cs o = subst (λ (s : ℕ → Bool). Once worl
 pub once_is_kept : (world : World) → HasSoundEdges world → (cs : List (List ℕ)) → Once world (all_places world) cs
     → in_order is_lower cs ≡ kept world
 once_is_kept world sound cs o =
-    in_order_same is_same exact_lists is_lower lower_full cs (kept world) (once_same world (all_places world) cs (kept world) o (kept_once world sound))
+    in_order_same is_same exact_lists is_lower lower_full cs (kept world)
+    (once_same world (all_places world) cs (kept world) o (kept_once world sound))
     ∙ in_order-kept world
 
 -- and the other way round;
@@ -192,7 +212,8 @@ pub once_means : (q : Statement) (tables : List (List (List Value))) (args : Lis
     → shape_of q tables cs ≡ meaning_of q tables args
 once_means q tables args s cs o =
     ap (rows_shown tables q.items q.groups q.order)
-    (once_is_kept (world_of q tables args) (sound_edges q tables args s) cs o ∙ sym (in_order-kept (world_of q tables args)))
+    (once_is_kept (world_of q tables args) (sound_edges q tables args s) cs o
+    ∙ sym (in_order-kept (world_of q tables args)))
 
 -- and among its members that pass a test, such as those of a group, each that fits and passes stands once.
 pub once_filtered : (world : World) (places : ℕ → Bool) (cs : List (List ℕ)) → Once world places cs

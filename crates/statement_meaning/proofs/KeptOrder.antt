@@ -1,5 +1,6 @@
 -- The kept combinations rise.
-use Rattle.std.proofs.Common.{ℕ, ◌≡◌, ◌<◌, ◌++◌, suc, zero, false, List, [], ◌∷◌, map, ap, sym, ◌∙◌, refl, subst, arith, append-nil}
+use Rattle.std.proofs.Common.{ℕ, ◌≡◌, ◌<◌, ◌++◌, suc, zero, false, List, [], ◌∷◌, map, ap, sym, ◌∙◌, refl, subst, arith}
+use Rattle.std.proofs.Common.{append-nil}
 use Rattle.std.specs.Prelude.{All, flat_map}
 use Rattle.std.proofs.lemmas.Bool.{ne_eqb, eq-eqb, le-ltb}
 use Rattle.std.proofs.lemmas.List.Elements.{All-nil, All-cons, All-head, All-tail, All-append, All-map}
@@ -37,8 +38,10 @@ less_front q r a b h = rw (le-ltb r q (omega (arith, h)), ne_eqb r q (λ e. omeg
 
 fronts_rise : (r : ℕ) (cs : List (List ℕ)) → Rises is_lower cs → Rises is_lower (map (λ c. r ∷ c) cs)
 fronts_rise r [] h = tt
-fronts_rise r (c ∷ cs) h =
-    (All-map (λ y. is_lower y (r ∷ c) ≡ false) (λ d. r ∷ d) cs (λ k d l. same_front r _ c ∙ h.0 k d l), fronts_rise r cs h.1)
+fronts_rise r (c ∷ cs) h = (
+  All-map (λ y. is_lower y (r ∷ c) ≡ false) (λ d. r ∷ d) cs (λ k d l. same_front r _ c ∙ h.0 k d l),
+  fronts_rise r cs h.1,
+)
 
 above_box : (n : ℕ) (ns : List ℕ) (cs : List (List ℕ)) (z : List ℕ) → InBox (n ∷ ns) z
     → All (λ y. is_lower y z ≡ false) (map (λ c. n ∷ c) cs)
@@ -51,8 +54,12 @@ fronts_all_rise : (n : ℕ) (ns : List ℕ) (cs : List (List ℕ)) → Rises is_
 fronts_all_rise zero ns cs r a = tt
 fronts_all_rise (suc n) ns cs r a =
     subst (Rises is_lower)
-    (sym (flat_map-append (λ r. map (λ c. r ∷ c) cs) (row_numbers n) (n ∷ []) ∙ ap (λ (zs : List (List ℕ)). flat_map (λ r. map (λ c. r ∷ c) cs) (row_numbers n) ++ zs) (append-nil (map (λ c. n ∷ c) cs))))
-    (append_rises is_lower (flat_map (λ r. map (λ c. r ∷ c) cs) (row_numbers n)) (map (λ c. n ∷ c) cs) (fronts_all_rise n ns cs r a) (fronts_rise n cs r) (λ k d l. above_box n ns cs _ (put_box n ns cs a (row_numbers n) (below n) k d l)))
+    (sym (flat_map-append (λ r. map (λ c. r ∷ c) cs) (row_numbers n) (n ∷ [])
+    ∙ ap (λ (zs : List (List ℕ)). flat_map (λ r. map (λ c. r ∷ c) cs) (row_numbers n)
+    ++ zs) (append-nil (map (λ c. n ∷ c) cs))))
+    (append_rises is_lower (flat_map (λ r. map (λ c. r ∷ c) cs) (row_numbers n)) (map (λ c. n ∷ c) cs)
+    (fronts_all_rise n ns cs r a) (fronts_rise n cs r)
+    (λ k d l. above_box n ns cs _ (put_box n ns cs a (row_numbers n) (below n) k d l)))
 
 combinations_rise : (ns : List ℕ) → Rises is_lower (combinations ns)
 combinations_rise [] = (All-nil (λ y. is_lower y [] ≡ false), tt)

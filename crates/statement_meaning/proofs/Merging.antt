@@ -1,7 +1,10 @@
 -- What two combinations made one have at each place, and what of a combination stands at the places of a set.
-use Rattle.std.proofs.Common.{ℕ, ◌≡◌, ◌<◌, ◌≤◌, ◌+◌, ◌&&◌, nat_lt, suc, zero, Bool, true, false, List, [], ◌∷◌, length, replicate, get_or, set, cond, ap, sym, ◌∙◌, refl, arith, add-zero, zero-add, ◌⊎◌, inl, inr}
+use Rattle.std.proofs.Common.{ℕ, ◌≡◌, ◌<◌, ◌≤◌, ◌+◌, ◌&&◌, nat_lt, suc, zero, Bool, true, false, List, [], ◌∷◌, length}
+use Rattle.std.proofs.Common.{replicate, get_or, set, cond, ap, sym, ◌∙◌, refl, arith, add-zero, zero-add, ◌⊎◌, inl}
+use Rattle.std.proofs.Common.{inr}
 use Rattle.std.proofs.lemmas.Bool.{false≢true, cases_lt, cases_order, eq-eqb, lt-ltb, le-ltb}
-use Rattle.std.proofs.lemmas.List.{get_or-set_same, get_or-set_other, length-set, length-replicate, get_or-replicate, get_or_past, ext_get_or}
+use Rattle.std.proofs.lemmas.List.{get_or-set_same, get_or-set_other, length-set, length-replicate, get_or-replicate}
+use Rattle.std.proofs.lemmas.List.{get_or_past, ext_get_or}
 use Rattle.statement_meaning.specs.Combinations.{World}
 use Rattle.statement_meaning.specs.PartialCombinations.{single, merged_from, merged, placed}
 
@@ -68,15 +71,18 @@ pub merged_more_in : (outer : ℕ → Bool) (c d made : List ℕ) (place : ℕ) 
 merged_more_in outer c d made place h l m i = by_place (cases_order i place)
   where
     by_place : (i ≡ place) ⊎ ((i < place) ⊎ (place < i))
-        → get_or (set made place (get_or c place 0)) i 0 ≡ cond (nat_lt i (place + 1) && outer i) (get_or c i 0) (get_or d i 0)
+        → get_or (set made place (get_or c place 0)) i 0
+        ≡ cond (nat_lt i (place + 1) && outer i) (get_or c i 0) (get_or d i 0)
     by_place (inl e) =
         rw (e, lt-ltb place (place + 1) (omega arith), h) (get_or-set_same made place (get_or c place 0) 0 l)
     by_place (inr (inl less)) =
         get_or-set_other made place i (get_or c place 0) 0 (λ e. omega (arith, e, less))
-        ∙ (m i ∙ ap (λ (b : Bool). cond (b && outer i) (get_or c i 0) (get_or d i 0)) (lt-ltb i place less ∙ sym (lt-ltb i (place + 1) (omega (arith, less)))))
+        ∙ (m i ∙ ap (λ (b : Bool). cond (b && outer i) (get_or c i 0) (get_or d i 0)) (lt-ltb i place less
+        ∙ sym (lt-ltb i (place + 1) (omega (arith, less)))))
     by_place (inr (inr past)) =
         get_or-set_other made place i (get_or c place 0) 0 (λ e. omega (arith, e, past))
-        ∙ (m i ∙ ap (λ (b : Bool). cond (b && outer i) (get_or c i 0) (get_or d i 0)) (le-ltb i place (omega (arith, past)) ∙ sym (le-ltb i (place + 1) (omega (arith, past)))))
+        ∙ (m i ∙ ap (λ (b : Bool). cond (b && outer i) (get_or c i 0) (get_or d i 0))
+        (le-ltb i place (omega (arith, past)) ∙ sym (le-ltb i (place + 1) (omega (arith, past)))))
 
 pub merged_more_out : (outer : ℕ → Bool) (c d made : List ℕ) (place : ℕ) → outer place ≡ false
     → IsMergedTo outer c d place made → IsMergedTo outer c d (place + 1) made
@@ -90,19 +96,24 @@ merged_more_out outer c d made place h m i = by_place (cases_order i place)
         → get_or made i 0 ≡ cond (nat_lt i (place + 1) && outer i) (get_or c i 0) (get_or d i 0)
     by_place (inl e) =
         m i
-        ∙ rw e (ap (λ (b : Bool). cond b (get_or c place 0) (get_or d place 0)) (never (nat_lt place place) ∙ sym (never (nat_lt place (place + 1)))))
+        ∙ rw e (ap (λ (b : Bool). cond b (get_or c place 0) (get_or d place 0)) (never (nat_lt place place)
+        ∙ sym (never (nat_lt place (place + 1)))))
     by_place (inr (inl less)) =
         m i
-        ∙ ap (λ (b : Bool). cond (b && outer i) (get_or c i 0) (get_or d i 0)) (lt-ltb i place less ∙ sym (lt-ltb i (place + 1) (omega (arith, less))))
+        ∙ ap (λ (b : Bool). cond (b && outer i) (get_or c i 0) (get_or d i 0)) (lt-ltb i place less
+        ∙ sym (lt-ltb i (place + 1) (omega (arith, less))))
     by_place (inr (inr past)) =
         m i
-        ∙ ap (λ (b : Bool). cond (b && outer i) (get_or c i 0) (get_or d i 0)) (le-ltb i place (omega (arith, past)) ∙ sym (le-ltb i (place + 1) (omega (arith, past))))
+        ∙ ap (λ (b : Bool). cond (b && outer i) (get_or c i 0) (get_or d i 0)) (le-ltb i place (omega (arith, past))
+        ∙ sym (le-ltb i (place + 1) (omega (arith, past))))
 
 pub merged_all : (outer : ℕ → Bool) (c d made : List ℕ) (place : ℕ) → length c ≡ length d → length made ≡ length c
     → length c ≤ place → IsMergedTo outer c d place made → made ≡ merged outer c d
 merged_all outer c d made place l k past m =
     sym
-    (merged_is outer c d made l k (λ i less. m i ∙ ap (λ (b : Bool). cond (b && outer i) (get_or c i 0) (get_or d i 0)) (lt-ltb i place (omega (arith, less, k, past)))))
+    (merged_is outer c d made l k (λ i less. m i
+    ∙ ap (λ (b : Bool). cond (b && outer i) (get_or c i 0) (get_or d i 0))
+    (lt-ltb i place (omega (arith, less, k, past)))))
 
 -- a combination with 0 at the places that are not in
 restricted_from : (ℕ → Bool) → ℕ → List ℕ → List ℕ
@@ -168,4 +179,5 @@ placed_there world place row i =
 pub placed_elsewhere : (world : World) (place row other : ℕ) → single place other ≡ false
     → get_or (placed world place row) other 0 ≡ 0
 placed_elsewhere world place row other h =
-    let z : ℕ = 0 in get_or-set_other (replicate world.places z) place other row 0 (λ e. false≢true (sym h ∙ eq-eqb place other (sym e))) ∙ zero_at world.places other
+    let z : ℕ = 0 in get_or-set_other (replicate world.places z) place other row 0 (λ e. false≢true (sym h
+    ∙ eq-eqb place other (sym e))) ∙ zero_at world.places other

@@ -1,5 +1,6 @@
 -- The kept combinations of a statement of one place are the rows that pass.
-use Rattle.std.proofs.Common.{ℕ, ◌≡◌, ◌<◌, ◌&&◌, suc, zero, Bool, true, false, List, [], ◌∷◌, length, map, cond, ap, sym, ◌∙◌, refl, arith, subst}
+use Rattle.std.proofs.Common.{ℕ, ◌≡◌, ◌<◌, ◌&&◌, suc, zero, Bool, true, false, List, [], ◌∷◌, length, map, cond, ap}
+use Rattle.std.proofs.Common.{sym, ◌∙◌, refl, arith, subst}
 use Rattle.std.specs.Prelude.{All, filter, flat_map, IsSome, Option}
 use Rattle.std.proofs.lemmas.Bool.{false≢true}
 use Rattle.std.proofs.lemmas.List.Elements.{All-head, All-weaker}
@@ -11,7 +12,8 @@ use Rattle.row_values.specs.declared.statement.Pred.{Pred}
 use Rattle.row_values.specs.declared.statement.Edge.{Edge}
 use Rattle.row_values.specs.declared.statement.Place.{Place}
 use Rattle.row_values.specs.RowNumbers.{row_numbers}
-use Rattle.statement_meaning.specs.Combinations.{World, combinations, sizes_from, keeps, kept, edges_hold, kept_combinations, world_of, row_at, rows_at}
+use Rattle.statement_meaning.specs.Combinations.{World, combinations, sizes_from, keeps, kept, edges_hold}
+use Rattle.statement_meaning.specs.Combinations.{kept_combinations, world_of, row_at, rows_at}
 use Rattle.statement_meaning.specs.Conditions.{row_passes}
 
 -- a column of the one place
@@ -36,7 +38,8 @@ no_edge : (places : List Place) → length places ≡ 1 → (edge : Edge) → Is
 no_edge [] l edge e = absurd (omega (arith, l))
 no_edge (place ∷ []) l edge e =
     e.two_places
-    (only_place place edge.left.place edge.left.column e.there ∙ sym (only_place place edge.right.place edge.right.column (subst IsSome e.one_kind e.there)))
+    (only_place place edge.left.place edge.left.column e.there
+    ∙ sym (only_place place edge.right.place edge.right.column (subst IsSome e.one_kind e.there)))
 no_edge (place ∷ (other ∷ places)) l edge e = absurd (omega (arith, l))
 
 no_edges : (places : List Place) → length places ≡ 1 → (edges : List Edge) → All (IsEdge places) edges → edges ≡ []
@@ -44,13 +47,18 @@ no_edges places l [] a = refl
 no_edges places l (edge ∷ edges) a = absurd (no_edge places l edge (All-head (IsEdge places) edge edges a))
 
 singles : (p : List ℕ → Bool) (rows : List ℕ)
-    → filter p (flat_map (λ row. map (λ rest. row ∷ rest) ([] ∷ [])) rows) ≡ map (λ row. row ∷ []) (filter (λ row. p (row ∷ [])) rows)
+    → filter p (flat_map (λ row. map (λ rest. row ∷ rest) ([] ∷ [])) rows)
+    ≡ map (λ row. row ∷ []) (filter (λ row. p (row ∷ [])) rows)
 singles p [] = refl
 singles p (row ∷ rows) = by_test (p (row ∷ [])) (singles p rows)
   where
     by_test : (b : Bool)
-        → filter p (flat_map (λ row. map (λ rest. row ∷ rest) ([] ∷ [])) rows) ≡ map (λ row. row ∷ []) (filter (λ row. p (row ∷ [])) rows)
-        → cond b ((row ∷ []) ∷ filter p (flat_map (λ row. map (λ rest. row ∷ rest) ([] ∷ [])) rows)) (filter p (flat_map (λ row. map (λ rest. row ∷ rest) ([] ∷ [])) rows)) ≡ map (λ row. row ∷ []) (cond b (row ∷ filter (λ row. p (row ∷ [])) rows) (filter (λ row. p (row ∷ [])) rows))
+        → filter p (flat_map (λ row. map (λ rest. row ∷ rest) ([] ∷ [])) rows)
+        ≡ map (λ row. row ∷ []) (filter (λ row. p (row ∷ [])) rows)
+        → cond b ((row ∷ []) ∷ filter p (flat_map (λ row. map (λ rest. row ∷ rest) ([] ∷ [])) rows))
+        (filter p (flat_map (λ row. map (λ rest. row ∷ rest) ([] ∷ [])) rows))
+        ≡ map (λ row. row ∷ []) (cond b (row ∷ filter (λ row. p (row ∷ [])) rows)
+        (filter (λ row. p (row ∷ [])) rows))
     by_test true more = ap (λ (zs : List (List ℕ)). (row ∷ []) ∷ zs) more
     by_test false more = more
 
@@ -72,9 +80,12 @@ kept_one : (world : World) → world.edges ≡ [] → world.places ≡ 1
 kept_one world e w =
     ap (λ (count : ℕ). filter (keeps world) (combinations (sizes_from world 0 count))) w
     ∙ (singles (keeps world) (row_numbers (world.size 0))
-    ∙ ap (map (λ row. row ∷ [])) (filter_same (λ row. keeps world (row ∷ [])) (world.passes 0) (keeps_one world e) (row_numbers (world.size 0))))
+    ∙ ap (map (λ row. row ∷ [])) (filter_same (λ row. keeps world (row ∷ [])) (world.passes 0) (keeps_one world e)
+    (row_numbers (world.size 0))))
 
 pub one_place : (q : Statement) (tables : List (List (List Value))) (args : List Value) → IsSoundQuery q
     → length q.places ≡ 1
-    → kept_combinations q tables args ≡ map (λ row. row ∷ []) (filter (λ row. row_passes args q.preds 0 (row_at tables 0 row)) (row_numbers (length (rows_at tables 0))))
+    → kept_combinations q tables args
+    ≡ map (λ row. row ∷ []) (filter (λ row. row_passes args q.preds 0 (row_at tables 0 row))
+    (row_numbers (length (rows_at tables 0))))
 one_place q tables args s l = kept_one (world_of q tables args) (no_edges q.places l q.edges s.edges) l

@@ -10,7 +10,8 @@ use Rattle.statement_meaning.specs.Meaning.{Shown, shown_row, rows_shown, is_bef
 use Rattle.row_values.proofs.Rising.{in_order-ties}
 use Rattle.statement_meaning.proofs.KeptOrder.{in_order-kept}
 
-plain : (tables : List (List (List Value))) (items : List Item) (groups : List ColRef) (order : List OrderKey) (combos : List (List ℕ))
+plain : (tables : List (List (List Value))) (items : List Item) (groups : List ColRef) (order : List OrderKey)
+    (combos : List (List ℕ))
     → groups ≡ [] → order ≡ []
     → rows_shown tables items groups order combos ≡ map (λ c. shown_row tables items (c ∷ []) c) combos
 plain tables items [] [] combos g o =

@@ -1,7 +1,8 @@
 -- When a row meets a predicate, and when two rows meet an edge.
 --
 -- A cell, a literal or an argument that isn't there meets nothing, and neither do values of two kinds.
-use Rattle.std.specs.Prelude.{ℕ, List, [], ◌∷◌, slice_get, Bool, true, false, ◌&&◌, ◌||◌, ◌==◌, if◌then◌else◌, Option, Some, None}
+use Rattle.std.specs.Prelude.{ℕ, List, [], ◌∷◌, slice_get, Bool, true, false, ◌&&◌, ◌||◌, ◌==◌, if◌then◌else◌, Option}
+use Rattle.std.specs.Prelude.{Some, None}
 use Rattle.std.specs.Option.{option_map_or}
 use Rattle.std.specs.Ordering.{is_lt, is_le, is_gt, is_ge, is_eq}
 use Rattle.std.specs.declared.cmp.Ordering.{Ordering}

@@ -1,7 +1,8 @@
 -- Combinations over some of the places, and what a join makes of two lists of them.
 --
 -- A set of places is the test whether a place is in. A partial combination has 0 at the places that are not in.
-use Rattle.std.specs.Prelude.{ℕ, suc, ◌≡◌, ◌<◌, Bool, true, false, ◌&&◌, ◌||◌, ◌==◌, nat_eq, nat_lt, List, [], ◌∷◌, length, map, replicate, set, slice_index_or, All, if◌then◌else◌}
+use Rattle.std.specs.Prelude.{ℕ, suc, ◌≡◌, ◌<◌, Bool, true, false, ◌&&◌, ◌||◌, ◌==◌, nat_eq, nat_lt, List, [], ◌∷◌}
+use Rattle.std.specs.Prelude.{length, map, replicate, set, slice_index_or, All, if◌then◌else◌}
 use Rattle.std.specs.List.{filter, flat_map}
 use Rattle.std.specs.Str.{bytes_eq}
 use Rattle.row_values.specs.declared.statement.ColRef.{ColRef}
@@ -82,7 +83,8 @@ joined world outer inner offered cs =
 
 -- What is offered to a combination of the outer side has no other than combinations of the inner side, and each once
 -- that meets with it every edge between.
-pub record Offers (world : World) (outer : ℕ → Bool) (inner : ℕ → Bool) (c : List ℕ) (offered : List (List ℕ)) : Type 0 where
+pub record Offers (world : World) (outer : ℕ → Bool) (inner : ℕ
+    → Bool) (c : List ℕ) (offered : List (List ℕ)) : Type 0 where
   pub only : All (Fits world inner) offered
   pub once : (d : List ℕ) → Fits world inner d
       → edges_hold world (edges_between world outer inner) (merged outer c d) ≡ true → times is_same d offered ≡ 1

@@ -1,5 +1,6 @@
 -- In a list in order equal elements stand side by side.
-use Rattle.std.proofs.Common.{ℕ, zero, suc, ◌≡◌, ◌<◌, ◌≤◌, ◌+◌, ◌-◌, ◌++◌, Bool, true, false, not, ◌||◌, List, [], ◌∷◌, ap, sym, ◌∙◌, refl, length, length-append, length-take, min, take, get_or, arith, cond}
+use Rattle.std.proofs.Common.{ℕ, zero, suc, ◌≡◌, ◌<◌, ◌≤◌, ◌+◌, ◌-◌, ◌++◌, Bool, true, false, not, ◌||◌, List, [], ◌∷◌}
+use Rattle.std.proofs.Common.{ap, sym, ◌∙◌, refl, length, length-append, length-take, min, take, get_or, arith, cond}
 use Rattle.std.specs.Prelude.{IsSortedBy}
 use Rattle.std.specs.List.{filter, list_any}
 use Rattle.std.specs.Cmp.{IsTotalOrder}
@@ -20,9 +21,11 @@ pub heads_push : {X : Type 0} (same : X → X → Bool) (xs : List X) (y : X)
     → heads same (xs ++ y ∷ []) ≡ heads same xs ++ cond (list_any (λ x. same x y) xs) [] (y ∷ [])
 heads_push same [] y = refl
 heads_push {X = X} same (x ∷ xs) y =
-    let more : heads same (xs ++ y ∷ []) ≡ heads same xs ++ cond (list_any (λ z. same z y) xs) [] (y ∷ []) = heads_push same xs y in
+    let more : heads same (xs ++ y ∷ []) ≡ heads same xs ++ cond (list_any (λ z. same z y) xs) [] (y ∷ []) =
+    heads_push same xs y in
     let parts : filter (λ z. not (same x z)) (heads same xs ++ cond (list_any (λ z. same z y) xs) [] (y ∷ []))
-    ≡ filter (λ z. not (same x z)) (heads same xs) ++ filter (λ z. not (same x z)) (cond (list_any (λ z. same z y) xs) [] (y ∷ [])) =
+    ≡ filter (λ z. not (same x z)) (heads same xs)
+    ++ filter (λ z. not (same x z)) (cond (list_any (λ z. same z y) xs) [] (y ∷ [])) =
     filter-append (λ z. not (same x z)) (heads same xs) (cond (list_any (λ z. same z y) xs) [] (y ∷ [])) in
     let last = by_tests (list_any (λ z. same z y) xs) (same x y) refl in
     rw (more, parts, last) refl
@@ -36,7 +39,8 @@ heads_push {X = X} same (x ∷ xs) y =
 
 -- the next element counts where no element before equals it
 pub heads_more : {X : Type 0} (same : X → X → Bool) (xs : List X) (i : ℕ) (d : X) → i < length xs
-    → length (heads same (take (i + 1) xs)) ≡ length (heads same (take i xs)) + cond (list_any (λ x. same x (get_or xs i d)) (take i xs)) 0 1
+    → length (heads same (take (i + 1) xs))
+    ≡ length (heads same (take i xs)) + cond (list_any (λ x. same x (get_or xs i d)) (take i xs)) 0 1
 heads_more same xs i d inside =
     rw (take_more xs i d inside, heads_push same (take i xs) (get_or xs i d), length-append)
     (ap (λ (n : ℕ). length (heads same (take i xs)) + n) (by_test (list_any (λ x. same x (get_or xs i d)) (take i xs))))
@@ -83,7 +87,8 @@ between_equal cmp o a b c h k e =
 pub equals_last : {X : Type 0} (cmp : X → X → Ordering) → IsTotalOrder cmp → (xs : List X)
     → IsSortedBy (λ a b. is_lt (cmp a b)) xs
     → (i : ℕ) (d : X) → i + 1 < length xs
-    → list_any (λ x. is_eq (cmp x (get_or xs (i + 1) d))) (take (i + 1) xs) ≡ is_eq (cmp (get_or xs i d) (get_or xs (i + 1) d))
+    → list_any (λ x. is_eq (cmp x (get_or xs (i + 1) d))) (take (i + 1) xs)
+    ≡ is_eq (cmp (get_or xs i d) (get_or xs (i + 1) d))
 equals_last {X = X} cmp o xs s i d inside =
     list_any_more (λ x. is_eq (cmp x (get_or xs (i + 1) d))) xs i d (omega arith)
     ∙ by_last (is_eq (cmp (get_or xs i d) (get_or xs (i + 1) d))) refl
@@ -105,7 +110,9 @@ equals_last {X = X} cmp o xs s i d inside =
     by_last true e = or_true (list_any (λ x. is_eq (cmp x (get_or xs (i + 1) d))) (take i xs))
     by_last false e =
         rw
-        (list_any_none (λ x. is_eq (cmp x (get_or xs (i + 1) d))) (take i xs) (All-from_get_or (λ x. is_eq (cmp x (get_or xs (i + 1) d)) ≡ false) (take i xs) d (λ k short. none k (rw length-take at short))))
+        (list_any_none (λ x. is_eq (cmp x (get_or xs (i + 1) d))) (take i xs)
+        (All-from_get_or (λ x. is_eq (cmp x (get_or xs (i + 1) d))
+        ≡ false) (take i xs) d (λ k short. none k (rw length-take at short))))
         refl
       where
         none : (k : ℕ) → k < min i (length xs) → is_eq (cmp (get_or (take i xs) k d) (get_or xs (i + 1) d)) ≡ false
@@ -117,13 +124,15 @@ equals_last {X = X} cmp o xs s i d inside =
 pub new_by_last : {X : Type 0} (cmp : X → X → Ordering) → IsTotalOrder cmp → (xs : List X)
     → IsSortedBy (λ a b. is_lt (cmp a b)) xs
     → (position : ℕ) (d : X) → (position ≡ 0 → ⊥) → position < length xs
-    → not (is_eq (cmp (get_or xs (position - 1) d) (get_or xs position d))) ≡ is_new (λ a b. is_eq (cmp a b)) xs position (get_or xs position d)
+    → not (is_eq (cmp (get_or xs (position - 1) d) (get_or xs position d)))
+    ≡ is_new (λ a b. is_eq (cmp a b)) xs position (get_or xs position d)
 new_by_last cmp o xs s zero d later inside = absurd (later refl)
 new_by_last cmp o xs s (suc before) d later inside =
     let last : suc before - 1 ≡ before = omega arith in rw last (after before (suc before) (omega arith) inside)
   where
     after : (before position : ℕ) → position ≡ before + 1 → position < length xs
-        → not (is_eq (cmp (get_or xs before d) (get_or xs position d))) ≡ is_new (λ a b. is_eq (cmp a b)) xs position (get_or xs position d)
+        → not (is_eq (cmp (get_or xs before d) (get_or xs position d)))
+        ≡ is_new (λ a b. is_eq (cmp a b)) xs position (get_or xs position d)
     after before position e inside = rw (e, equals_last cmp o xs s before d (rw e at inside)) refl
 
 -- what a test adds to a count
@@ -138,13 +147,15 @@ not_equal Greater = refl
 
 -- the count of distinct elements goes on
 pub count_more : {X : Type 0} (same : X → X → Bool) (xs : List X) (position : ℕ) (d : X) → position < length xs
-    → distinct_count same (take position xs) + cond (is_new same xs position (get_or xs position d)) 1 0 ≡ distinct_count same (take (position + 1) xs)
+    → distinct_count same (take position xs) + cond (is_new same xs position (get_or xs position d)) 1 0
+    ≡ distinct_count same (take (position + 1) xs)
 count_more same xs position d inside =
     rw (heads_more same xs position d inside)
     (by_test (list_any (λ x. same x (get_or xs position d)) (take position xs)))
   where
     by_test : (any : Bool)
-        → length (heads same (take position xs)) + cond (not any) 1 0 ≡ length (heads same (take position xs)) + cond any 0 1
+        → length (heads same (take position xs)) + cond (not any) 1 0
+        ≡ length (heads same (take position xs)) + cond any 0 1
     by_test true = refl
     by_test false = refl
 

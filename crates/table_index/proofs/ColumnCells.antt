@@ -1,5 +1,6 @@
 -- The cells of a column: by row number, packed, and in the order of an index.
-use Rattle.std.proofs.Common.{ℕ, ℤ, zero, suc, ◌≡◌, ◌<◌, ◌≤◌, add-one, Bool, true, false, not, List, [], ◌∷◌, ap, sym, ◌∙◌, refl, length, map, take, get_or, arith, cond}
+use Rattle.std.proofs.Common.{ℕ, ℤ, zero, suc, ◌≡◌, ◌<◌, ◌≤◌, add-one, Bool, true, false, not, List, [], ◌∷◌, ap, sym}
+use Rattle.std.proofs.Common.{◌∙◌, refl, length, map, take, get_or, arith, cond}
 use Rattle.std.specs.Prelude.{Option, Some, slice_get, option_map, IsPermutation}
 use Rattle.std.specs.List.{filter}
 use Rattle.std.specs.Ordering.{int_cmp, is_eq}
@@ -23,8 +24,14 @@ first_rows : {X Y : Type 0} (g : ℕ → Y) (h : X → Y) (xs : List X) (d : X)
 first_rows g h xs d e zero l = refl
 first_rows g h xs d e (suc n) l =
     let short : n < length xs = omega (arith, l) in
-    rw
-    (map_push g (row_numbers n) n, first_rows g h xs d e n (omega (arith, l)), e n short, ← add-one, take_more xs n d short, map_push h (take n xs) (get_or xs n d))
+    rw (
+      map_push g (row_numbers n) n,
+      first_rows g h xs d e n (omega (arith, l)),
+      e n short,
+      ← add-one,
+      take_more xs n d short,
+      map_push h (take n xs) (get_or xs n d),
+    )
     refl
 
 by_rows : {X Y : Type 0} (g : ℕ → Y) (h : X → Y) (xs : List X)
@@ -56,7 +63,8 @@ filter-map f p [] = refl
 filter-map {Y = Y} f p (x ∷ xs) = by_test (p (f x)) (filter-map f p xs)
   where
     by_test : (b : Bool) → filter p (map f xs) ≡ map f (filter (λ x. p (f x)) xs)
-        → cond b (f x ∷ filter p (map f xs)) (filter p (map f xs)) ≡ map f (cond b (x ∷ filter (λ x. p (f x)) xs) (filter (λ x. p (f x)) xs))
+        → cond b (f x ∷ filter p (map f xs)) (filter p (map f xs))
+        ≡ map f (cond b (x ∷ filter (λ x. p (f x)) xs) (filter (λ x. p (f x)) xs))
     by_test true more = ap (λ (ys : List Y). f x ∷ ys) more
     by_test false more = more
 
@@ -65,14 +73,16 @@ heads-map : {X Y : Type 0} (f : X → Y) (same : Y → Y → Bool) (xs : List X)
 heads-map f same [] = refl
 heads-map {Y = Y} f same (x ∷ xs) =
     ap (λ (ys : List Y). f x ∷ ys)
-    (ap (filter (λ y. not (same (f x) y))) (heads-map f same xs) ∙ filter-map f (λ y. not (same (f x) y)) (heads (λ a b. same (f a) (f b)) xs))
+    (ap (filter (λ y. not (same (f x) y))) (heads-map f same xs)
+    ∙ filter-map f (λ y. not (same (f x) y)) (heads (λ a b. same (f a) (f b)) xs))
 
 -- the distinct numbers of a packed column are its distinct cells
 pub distinct_of_numbers : (table : TableValue) (column : ℕ) (numbers : List ℤ) → AreNumbers table column numbers
     → distinct_count (λ a b. is_eq (int_cmp a b)) numbers ≡ distinct_in table column
 distinct_of_numbers table column numbers n =
     sym (ap (distinct_count is_same_cell) (cells_are_numbers table column numbers n)
-    ∙ (ap length (heads-map (λ number. Some (Int number)) is_same_cell numbers) ∙ length-map (heads (λ a b. is_eq (int_cmp a b)) numbers) (λ number. Some (Int number))))
+    ∙ (ap length (heads-map (λ number. Some (Int number)) is_same_cell numbers)
+    ∙ length-map (heads (λ a b. is_eq (int_cmp a b)) numbers) (λ number. Some (Int number))))
 
 -- rows in whatever order have the distinct cells of the column
 pub distinct_of_rows : (table : TableValue) (column : ℕ) (rows : List ℕ)
@@ -80,5 +90,6 @@ pub distinct_of_rows : (table : TableValue) (column : ℕ) (rows : List ℕ)
     → distinct_count is_same_cell (cells_of table column rows) ≡ distinct_in table column
 distinct_of_rows table column rows p =
     sym (ap (distinct_count is_same_cell) (sym (cells_by_row table column))
-    ∙ heads_of_permutation is_same_cell (eq_by_cmp_equiv cell_order_total) (cells_of table column (row_numbers (length table.rows))) (cells_of table column rows)
+    ∙ heads_of_permutation is_same_cell (eq_by_cmp_equiv cell_order_total)
+    (cells_of table column (row_numbers (length table.rows))) (cells_of table column rows)
     (IsPermutation-map (λ row. cell_at table row column) (row_numbers (length table.rows)) rows p))

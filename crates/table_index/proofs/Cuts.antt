@@ -1,5 +1,6 @@
 -- Lists that two tests cut: the first of them fails the front, and the second fails the rest.
-use Rattle.std.proofs.Common.{ℕ, zero, suc, ◌≡◌, ◌≤◌, ◌-◌, Bool, true, false, not, ◌&&◌, List, [], ◌∷◌, ap, sym, ◌∙◌, refl, length, take, drop, arith, max}
+use Rattle.std.proofs.Common.{ℕ, zero, suc, ◌≡◌, ◌≤◌, ◌-◌, Bool, true, false, not, ◌&&◌, List, [], ◌∷◌, ap, sym, ◌∙◌}
+use Rattle.std.proofs.Common.{refl, length, take, drop, arith, max}
 use Rattle.std.specs.List.{count_by, filter, slice_range}
 use Rattle.std.specs.List.Sorted.{IsPartitionPoint}
 use Rattle.std.proofs.lemmas.Bool.{false≢true}
@@ -29,12 +30,17 @@ pub cut_from_point : {X : Type 0} (p : X → Bool) (xs : List X) (k : ℕ) → k
     → IsPartitionPoint (λ y. p y ≡ true) (λ y. p y ≡ false) xs k → Cut p xs k
 cut_from_point p [] zero l h = tt
 cut_from_point p [] (suc k) l h = absurd (omega (arith, l))
-cut_from_point p (x ∷ xs) zero l h =
-    (h.1 zero x (omega arith) (omega arith), cut_from_point p xs zero (omega arith) ((λ k d a b. absurd (omega (arith, b))), (λ k d a b. h.1 (suc k) d (omega arith) (omega (arith, b)))))
+cut_from_point p (x ∷ xs) zero l h = (
+  h.1 zero x (omega arith) (omega arith),
+  cut_from_point p xs zero (omega arith)
+      ((λ k d a b. absurd (omega (arith, b))), (λ k d a b. h.1 (suc k) d (omega arith) (omega (arith, b)))),
+)
 cut_from_point p (x ∷ xs) (suc k) l h = (
   h.0 zero x (omega arith) (omega arith),
-  cut_from_point p xs k (omega (arith, l))
-      ((λ i d a b. h.0 (suc i) d (omega arith) (omega (arith, b))), (λ i d a b. h.1 (suc i) d (omega (arith, a)) (omega (arith, b)))),
+  cut_from_point p xs k (omega (arith, l)) (
+    (λ i d a b. h.0 (suc i) d (omega arith) (omega (arith, b))),
+    (λ i d a b. h.1 (suc i) d (omega (arith, a)) (omega (arith, b))),
+  ),
 )
 
 -- the cut is how many pass

@@ -26,8 +26,10 @@ one_number a b e = grind (arith, nat_tests)
 only_itself : (table : TableValue) (column : ℕ) → IsFullOrder (is_before table column)
 only_itself table column =
     full_order_from (row_order table column)
-    (then_total (on_total (λ (row : ℕ). cell_at table row column) cell_order_total) (on_total (λ (row : ℕ). row) nat_cmp_total))
-    (λ a b e. one_number a b (last_equal (cell_order (cell_at table a column) (cell_at table b column)) (nat_cmp a b) e))
+    (then_total (on_total (λ (row : ℕ). cell_at table row column) cell_order_total)
+    (on_total (λ (row : ℕ). row) nat_cmp_total))
+    (λ a b e. one_number a b (last_equal (cell_order (cell_at table a column) (cell_at table b column))
+    (nat_cmp a b) e))
 
 pub ordered_is : (table : TableValue) (column : ℕ) (rows : List ℕ) → AreOrdered table column rows
     → rows ≡ rows_in_order table column

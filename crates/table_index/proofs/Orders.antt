@@ -21,7 +21,8 @@ use Rattle.table_index.specs.Indexes.{is_before, number_order, row_order}
 pub rows_ranked : (table : TableValue) (column : ℕ) → IsStrictWeakOrder (is_before table column)
 rows_ranked table column =
     ranks_by {R = row_order table column}
-    (then_total (on_total (λ (row : ℕ). cell_at table row column) cell_order_total) (on_total (λ (row : ℕ). row) nat_cmp_total))
+    (then_total (on_total (λ (row : ℕ). cell_at table row column) cell_order_total)
+    (on_total (λ (row : ℕ). row) nat_cmp_total))
     (λ (row : ℕ). row)
 
 -- rows that don't fall by cell and number don't fall by cell
@@ -35,8 +36,11 @@ pub cells_rise : (table : TableValue) (column : ℕ) (rows : List ℕ) → IsSor
     → IsSortedBy (λ a b. is_lt (cell_order a b)) (map (λ row. cell_at table row column) rows)
 cells_rise table column rows s k d low inside =
     let short : k + 1 < length rows = rw length-map at inside in
-    rw
-    (get_or-map (λ row. cell_at table row column) rows (k + 1) 0 d short, get_or-map (λ row. cell_at table row column) rows k 0 d (omega arith))
+    rw (
+      get_or-map (λ row. cell_at table row column) rows (k + 1) 0 d short,
+      get_or-map (λ row. cell_at table row column)
+          rows k 0 d (omega arith),
+    )
     (first_not_less _ _ (s k 0 low short))
 
 -- packed numbers stand as their cells do
@@ -51,8 +55,12 @@ pub ordered_by_numbers : (table : TableValue) (column : ℕ) (numbers : List ℤ
     → AreNumbers table column numbers
     → IsSortedBy (λ a b. is_lt (number_order numbers a b)) rows → IsSortedBy (is_before table column) rows
 ordered_by_numbers table column numbers rows n s k d low inside =
-    rw
-    (n.cells (get_or rows (k + 1) d), n.cells (get_or rows k d), same_order (slice_get numbers (get_or rows (k + 1) d)) (slice_get numbers (get_or rows k d)))
+    rw (
+      n.cells (get_or rows (k + 1) d),
+      n.cells (get_or rows k d),
+      same_order (slice_get numbers (get_or rows (k + 1) d))
+          (slice_get numbers (get_or rows k d)),
+    )
     (s k d low inside)
 
 -- the rows of sorted pairs are in order

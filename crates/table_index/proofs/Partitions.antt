@@ -1,5 +1,6 @@
 -- In the order of an index the cells below an end come first.
-use Rattle.std.proofs.Common.{ℕ, ◌≡◌, ◌<◌, ◌≤◌, Bool, true, false, not, List, [], ap, sym, ◌∙◌, refl, length, get_or, arith}
+use Rattle.std.proofs.Common.{ℕ, ◌≡◌, ◌<◌, ◌≤◌, Bool, true, false, not, List, [], ap, sym, ◌∙◌, refl, length, get_or}
+use Rattle.std.proofs.Common.{arith}
 use Rattle.std.specs.Prelude.{All, Option, Some, slice_get}
 use Rattle.std.specs.List.Sorted.{IsPartitionedBy}
 use Rattle.std.specs.Cmp.{IsStrictWeakOrder}
@@ -39,7 +40,8 @@ stands table t column row value k inside =
     let size : length (get_or table.rows row []) ≡ length table.schema =
     sym (length-map (get_or table.rows row []) kind_of)
     ∙ (ap length kinds ∙ length-map table.schema (λ column. column.kind)) in
-    let wide : column < length (get_or table.rows row []) = omega (arith, size, column_in_range table.schema column (kind_of value) k) in
+    let wide : column < length (get_or table.rows row []) =
+    omega (arith, size, column_in_range table.schema column (kind_of value) k) in
     let here : cell_at table row column ≡ Some (get_or (get_or table.rows row []) column value) =
     ap (λ (r : Option (List Value)). value_in r column) (slice_get-get_or table.rows row [] inside)
     ∙ slice_get-get_or (get_or table.rows row []) column value wide in
@@ -107,7 +109,8 @@ rise table column rows o = record {
       All-permutation (λ row. row < length table.rows) (row_numbers (length table.rows)) rows o.each_once
       (below (length table.rows));
   up =
-      λ i j d le l. first_not_less _ _ (sorted_far (is_before table column) (rows_ranked table column) rows o.in_order i j d le l);
+      λ i j d le l. first_not_less _ _ (sorted_far (is_before table column) (rows_ranked table column) rows o.in_order i
+      j d le l);
 }
 
 -- what lies below a low end comes first
@@ -123,16 +126,20 @@ below_first table t column rows r (Closed end) f i j d le l h =
     let x = ge_not_less (cell_order (cell_at table (get_or rows i d) column) (Some end.now)) in
     let y = ge_not_less (cell_order (cell_at table (get_or rows j d) column) (Some end.now)) in
     ap not a
-    ∙ (x ∙ less_first (cell_at table (get_or rows i d) column) (cell_at table (get_or rows j d) column) (Some end.now) (r.up i j d le l) (sym y ∙ (sym (ap not b) ∙ h)))
+    ∙ (x ∙ less_first (cell_at table (get_or rows i d) column) (cell_at table (get_or rows j d) column) (Some end.now)
+    (r.up i j d le l) (sym y ∙ (sym (ap not b) ∙ h)))
 below_first table t column rows r (Strict end) f i j d le l h =
     let here = stands table t column (get_or rows i d) end.now f (r.inside i d (omega (arith, le, l))) in
     let there = stands table t column (get_or rows j d) end.now f (r.inside j d l) in
     let a = compared is_gt (cell_at table (get_or rows i d) column) end.now here in
     let b = compared is_gt (cell_at table (get_or rows j d) column) end.now there in
-    let x = gt_back (cell_order (cell_at table (get_or rows i d) column) (Some end.now)) ∙ ap (λ (o : Ordering). not (is_lt o)) (back (cell_at table (get_or rows i d) column) end.now) in
-    let y = gt_back (cell_order (cell_at table (get_or rows j d) column) (Some end.now)) ∙ ap (λ (o : Ordering). not (is_lt o)) (back (cell_at table (get_or rows j d) column) end.now) in
+    let x = gt_back (cell_order (cell_at table (get_or rows i d) column) (Some end.now))
+    ∙ ap (λ (o : Ordering). not (is_lt o)) (back (cell_at table (get_or rows i d) column) end.now) in
+    let y = gt_back (cell_order (cell_at table (get_or rows j d) column) (Some end.now))
+    ∙ ap (λ (o : Ordering). not (is_lt o)) (back (cell_at table (get_or rows j d) column) end.now) in
     ap not a
-    ∙ (x ∙ not_more_first (cell_at table (get_or rows i d) column) (cell_at table (get_or rows j d) column) (Some end.now) (r.up i j d le l) (sym y ∙ (sym (ap not b) ∙ h)))
+    ∙ (x ∙ not_more_first (cell_at table (get_or rows i d) column) (cell_at table (get_or rows j d) column)
+    (Some end.now) (r.up i j d le l) (sym y ∙ (sym (ap not b) ∙ h)))
 
 -- and so does what doesn't lie above a high end
 pub up_to_first : (table : TableValue) → IsTable table → (column : ℕ) (rows : List ℕ) → Rise table column rows
@@ -144,14 +151,18 @@ up_to_first table t column rows r (Closed end) f i j d le l h =
     let there = stands table t column (get_or rows j d) end.now f (r.inside j d l) in
     let a = compared is_le (cell_at table (get_or rows i d) column) end.now here in
     let b = compared is_le (cell_at table (get_or rows j d) column) end.now there in
-    let x = le_back (cell_order (cell_at table (get_or rows i d) column) (Some end.now)) ∙ ap (λ (o : Ordering). not (is_lt o)) (back (cell_at table (get_or rows i d) column) end.now) in
-    let y = le_back (cell_order (cell_at table (get_or rows j d) column) (Some end.now)) ∙ ap (λ (o : Ordering). not (is_lt o)) (back (cell_at table (get_or rows j d) column) end.now) in
+    let x = le_back (cell_order (cell_at table (get_or rows i d) column) (Some end.now))
+    ∙ ap (λ (o : Ordering). not (is_lt o)) (back (cell_at table (get_or rows i d) column) end.now) in
+    let y = le_back (cell_order (cell_at table (get_or rows j d) column) (Some end.now))
+    ∙ ap (λ (o : Ordering). not (is_lt o)) (back (cell_at table (get_or rows j d) column) end.now) in
     a
-    ∙ (x ∙ not_more_first (cell_at table (get_or rows i d) column) (cell_at table (get_or rows j d) column) (Some end.now) (r.up i j d le l) (sym y ∙ (sym b ∙ h)))
+    ∙ (x ∙ not_more_first (cell_at table (get_or rows i d) column) (cell_at table (get_or rows j d) column)
+    (Some end.now) (r.up i j d le l) (sym y ∙ (sym b ∙ h)))
 up_to_first table t column rows r (Strict end) f i j d le l h =
     let here = stands table t column (get_or rows i d) end.now f (r.inside i d (omega (arith, le, l))) in
     let there = stands table t column (get_or rows j d) end.now f (r.inside j d l) in
     let a = compared is_lt (cell_at table (get_or rows i d) column) end.now here in
     let b = compared is_lt (cell_at table (get_or rows j d) column) end.now there in
     a
-    ∙ less_first (cell_at table (get_or rows i d) column) (cell_at table (get_or rows j d) column) (Some end.now) (r.up i j d le l) (sym b ∙ h)
+    ∙ less_first (cell_at table (get_or rows i d) column) (cell_at table (get_or rows j d) column) (Some end.now)
+    (r.up i j d le l) (sym b ∙ h)

@@ -1,5 +1,6 @@
 -- Lists with the same elements have as many distinct ones.
-use Rattle.std.proofs.Common.{ℕ, zero, suc, ◌≡◌, ◌≤◌, ◌+◌, Bool, true, false, not, ◌&&◌, List, [], ◌∷◌, ap, sym, ◌∙◌, refl, length, arith, cond, min}
+use Rattle.std.proofs.Common.{ℕ, zero, suc, ◌≡◌, ◌≤◌, ◌+◌, Bool, true, false, not, ◌&&◌, List, [], ◌∷◌, ap, sym, ◌∙◌}
+use Rattle.std.proofs.Common.{refl, length, arith, cond, min}
 use Rattle.std.specs.Prelude.{IsPermutation}
 use Rattle.std.specs.List.{filter}
 use Rattle.std.specs.Cmp.{IsEquivalence}
@@ -60,7 +61,8 @@ nothing_lost same p h x e [] = refl
 nothing_lost {X = X} same p h x e (y ∷ ys) = by_same (nothing_lost same p h x e ys) (same x y) refl
   where
     by_same : filter p (filter (λ y. not (same x y)) ys) ≡ filter p ys → (b : Bool) → same x y ≡ b
-        → filter p (cond (not b) (y ∷ filter (λ y. not (same x y)) ys) (filter (λ y. not (same x y)) ys)) ≡ cond (p y) (y ∷ filter p ys) (filter p ys)
+        → filter p (cond (not b) (y ∷ filter (λ y. not (same x y)) ys) (filter (λ y. not (same x y)) ys))
+        ≡ cond (p y) (y ∷ filter p ys) (filter p ys)
     by_same more true s = rw (sym (h x y s) ∙ e) more
     by_same more false s = ap (λ (zs : List X). cond (p y) (y ∷ zs) zs) more
 
@@ -72,7 +74,8 @@ heads_filter same p h [] = refl
 heads_filter {X = X} same p h (x ∷ xs) = by_test (heads_filter same p h xs) (p x) refl
   where
     by_test : filter p (heads same xs) ≡ heads same (filter p xs) → (b : Bool) → p x ≡ b
-        → cond b (x ∷ filter p (filter (λ y. not (same x y)) (heads same xs))) (filter p (filter (λ y. not (same x y)) (heads same xs)))
+        → cond b (x ∷ filter p (filter (λ y. not (same x y)) (heads same xs)))
+        (filter p (filter (λ y. not (same x y)) (heads same xs)))
         ≡ heads same (cond b (x ∷ filter p xs) (filter p xs))
     by_test more true e =
         ap (λ (zs : List X). x ∷ zs)
@@ -92,7 +95,9 @@ count_split p [] = refl
 count_split p (x ∷ xs) = by_test (p x) (count_split p xs)
   where
     by_test : (b : Bool) → length xs ≡ count p xs + length (filter (λ x. not (p x)) xs)
-        → suc (length xs) ≡ (cond b 1 0 + count p xs) + length (cond (not b) (x ∷ filter (λ x. not (p x)) xs) (filter (λ x. not (p x)) xs))
+        → suc (length xs)
+        ≡ (cond b 1 0 + count p xs) + length (cond (not b) (x ∷ filter (λ x. not (p x)) xs)
+        (filter (λ x. not (p x)) xs))
     by_test true more = omega (arith, more)
     by_test false more = omega (arith, more)
 

@@ -1,6 +1,7 @@
 //! The number of distinct values in a column.
 //!
-//! In a list in order equal values stand side by side, so that each distinct one is a change from the one before.
+//! In a list in order equal values stand side by side, so that each distinct one is a change from
+//! the one before.
 ghost use Rattle.std.specs.Prelude.{◌≡◌, ◌<◌, ◌≤◌, IfOk, IfSome, IsSortedBy, length, pos, slice_index, slice_index_or};
 ghost use Rattle.std.specs.Ordering.{int_cmp, is_eq, is_lt};
 ghost use Rattle.csv_tables.specs.Tables.{AreNumbers, cell_at};
@@ -13,7 +14,8 @@ use csv_tables::Table;
 use row_values::OutOfMemory;
 use std::alloc::Global;
 
-/// Whether no row before this position has an equal cell, where the rows stand in the order of their cells.
+/// Whether no row before this position has an equal cell, where the rows stand in the order of
+/// their cells.
 fn is_new_cell(
     t: &Table,
     column: usize,

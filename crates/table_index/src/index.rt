@@ -1,6 +1,7 @@
 //! Indexes over one column of a table, and the ranges of their rows.
 //!
-//! An index keeps no cell: it is read beside the table that it was built of, which every call names again.
+//! An index keeps no cell: it is read beside the table that it was built of, which every call names
+//! again.
 ghost use Rattle.std.specs.Prelude.{◌≡◌, ◌<◌, ◌≤◌, IfOk, filter, length, max, slice_range};
 ghost use Rattle.std.specs.List.{count_by};
 ghost use Rattle.csv_tables.specs.Tables.{AreNumbers};
@@ -16,7 +17,8 @@ use row_values::OutOfMemory;
 use std::alloc::Global;
 use std::marker::Model;
 
-/// The rows of a table in the order of one column, and of equal cells in the order of their numbers.
+/// The rows of a table in the order of one column, and of equal cells in the order of their
+/// numbers.
 #[derive(Debug, Drop)]
 pub struct Index {
     column: u8,
@@ -56,8 +58,10 @@ impl Index {
         self.rows.as_slice()
     }
 
-    /// The positions of the rows whose cells lie between two ends: how many positions lie below the low end, and how
-    /// many don't lie above the high one, but at least the first number. Ends that cross hold no row between them.
+    /// The positions of the rows whose cells lie between two ends: how many positions lie below the
+    /// low end, and how
+    /// many don't lie above the high one, but at least the first number. Ends that cross hold no
+    /// row between them.
     pub fn range(&self, t: &Table, lo: Bound<'_>, hi: Bound<'_>) -> (usize, usize)
         requires built { IsBuilt t.now self.now.column self.now }
         requires low { FitsColumn t.now self.now.column lo }

@@ -1,6 +1,7 @@
 //! Indexes: the rows of a table in the order of one column, and what lies between two bounds.
 //!
-//! An `Index` is built of a table over a column, and read beside that table. Building takes memory, reading takes
+//! An `Index` is built of a table over a column, and read beside that table. Building takes memory,
+//! reading takes
 //! none. `distinct_values` counts the distinct values of a column that has no index.
 #![tactic(auto)]
 

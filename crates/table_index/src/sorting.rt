@@ -1,6 +1,7 @@
 //! The rows of a table in the order of a column.
 //!
-//! Where the column is packed, pairs of number and row are sorted, so that the sort reads its own list alone.
+//! Where the column is packed, pairs of number and row are sorted, so that the sort reads its own
+//! list alone.
 ghost use Rattle.std.specs.Prelude.{◌≡◌, ◌<◌, ◌≤◌, All, IfOk, IsPermutation, IsSortedBy, Some, length, map, slice_get};
 ghost use Rattle.std.specs.Ordering.{is_lt};
 ghost use Rattle.csv_tables.specs.Tables.{AreNumbers};
@@ -26,7 +27,8 @@ fn all_rows(alloc: Global, count: usize) -> Result<Vec<u32>, OutOfMemory>
     Ok(rows)
 }
 
-/// How two rows stand in a column; within one column the derived order of values is the value order.
+/// How two rows stand in a column; within one column the derived order of values is the value
+/// order.
 fn order_of(t: &Table, column: usize, a: u32, b: u32) -> Ordering
     requires { column < length t.now.schema }
     ensures { result ≡ row_order t.now column a b }

@@ -1,5 +1,6 @@
 -- Lists of numbers that fit a statement, told from the front as tests walk them.
-use Rattle.std.specs.Prelude.{ℕ, ◌≡◌, ◌<◌, ◌≤◌, ◌+◌, true, false, List, [], ◌∷◌, length, take, drop, All, slice_get, slice_index, Some, ◌^◌}
+use Rattle.std.specs.Prelude.{ℕ, ◌≡◌, ◌<◌, ◌≤◌, ◌+◌, true, false, List, [], ◌∷◌, length, take, drop, All, slice_get}
+use Rattle.std.specs.Prelude.{slice_index, Some, ◌^◌}
 use Rattle.row_values.specs.Statements.{Statement, is_parameterised}
 use Rattle.row_values.specs.declared.statement.Place.{Place}
 use Rattle.row_values.specs.declared.statement.Pred.{Pred}
@@ -18,7 +19,8 @@ DoFansFit rows next (place ∷ places) fans =
 abbrev pub DoesVectorFit : List ℕ → List Pred → List ℕ → Type 0
 DoesVectorFit rows [] vector = length vector ≡ 0
 DoesVectorFit rows (pred ∷ preds) vector =
-    (is_parameterised pred ≡ true → (0 < length vector) × IsWithin (slice_index rows pred.at.place) (slice_index vector 0) × DoesVectorFit rows preds (drop 1 vector))
+    (is_parameterised pred ≡ true → (0 < length vector)
+    × IsWithin (slice_index rows pred.at.place) (slice_index vector 0) × DoesVectorFit rows preds (drop 1 vector))
     × (is_parameterised pred ≡ false → DoesVectorFit rows preds vector)
 
 -- the numbers fit the statement, list by list
@@ -30,7 +32,8 @@ pub record ArePartsSound (q : Statement) (rows fixed matching distinct fans : Li
   pub distinct_counts : length distinct ≡ length q.edges
   pub rows_fit : All (IsWithin (2 ^ 20)) rows
   pub fixed_fit : (k : ℕ) → k < length fixed → IsWithin (slice_index rows k) (slice_index fixed k)
-  pub matching_fit : (j : ℕ) (pred : Pred) → slice_get q.preds j ≡ Some pred → IsWithin (slice_index rows pred.at.place) (slice_index matching j)
+  pub matching_fit : (j : ℕ) (pred : Pred) → slice_get q.preds j ≡ Some pred
+      → IsWithin (slice_index rows pred.at.place) (slice_index matching j)
   pub distinct_fit : All (λ d. 1 ≤ d) distinct
   pub fans_fit : DoFansFit rows 0 q.places fans
   pub not_wide : weighted_size q.preds 0 rows ≤ 2 ^ 63

@@ -1,6 +1,7 @@
 //! Which predicates are parameterised.
 ghost use Rattle.std.specs.Prelude.{◌≡◌, ◌==◌, not, length};
-ghost use Rattle.row_values.specs.Statements.{is_parameterised as is_parameterised_pred, operand_parameters, operands_parameters};
+ghost use Rattle.row_values.specs.Statements.{is_parameterised as is_parameterised_pred, operand_parameters};
+ghost use Rattle.row_values.specs.Statements.{operands_parameters};
 
 use row_values::{Operand, Pred, Test};
 

@@ -1,7 +1,9 @@
 //! Tests that statistics and vectors are sound for a statement.
-ghost use Rattle.std.specs.Prelude.{ℕ, List, ◌≡◌, ◌<◌, ◌≤◌, ◌*◌, ◌^◌, ◌↔◌, IsTrue, IfSome, Some, All, length, slice_get, slice_index};
+ghost use Rattle.std.specs.Prelude.{ℕ, List, ◌≡◌, ◌<◌, ◌≤◌, ◌*◌, ◌^◌, ◌↔◌, IsTrue, IfSome, Some, All, length};
+ghost use Rattle.std.specs.Prelude.{slice_get, slice_index};
 ghost use Rattle.row_values.specs.declared.statement.Pred.{Pred as APred};
-ghost use Rattle.plan_trees.specs.Statistics.{AreWeights, IsSoundStats, IsWithin, selectivities_on as selectivities_of_place, weighted_size};
+ghost use Rattle.plan_trees.specs.Statistics.{AreWeights, IsSoundStats, IsWithin};
+ghost use Rattle.plan_trees.specs.Statistics.{selectivities_on as selectivities_of_place, weighted_size};
 ghost use Rattle.worked_statements.specs.Fitting.{ArePartsSound, DoFansFit, DoesVectorFit};
 
 use crate::parameters::is_parameterised;

@@ -5,7 +5,8 @@ use crate::columns::Column;
 use std::alloc::Global;
 use std::test::Fail;
 
-/// What is changed in the sound statement `SELECT a.n, b.s FROM t a, t b WHERE a.n < ? AND a.n = b.n`.
+/// What is changed in the sound statement `SELECT a.n, b.s FROM t a, t b WHERE a.n < ? AND a.n =
+/// b.n`.
 #[derive(Clone, Copy, Debug, PartialEq, Eq)]
 enum Change {
     Nothing,

@@ -10,12 +10,17 @@ not_below a b h = omega arith
 
 pub returns-in-None-clause-large : goal.returns-in-None-clause-large
 returns-in-None-clause-large c = λ _.
-    kept_large_multiple (times_term (c.args.mask, c.args.coefficient)) c.args.factors.now _ _ c.loop-other.other-index (0, 0) (omega arith) c.loop-other.invariant.so_far
-    (large_add_new (times_term (c.args.mask, c.args.coefficient) (get_or c.args.factors.now c.loop-other.other-index (0, 0))) c.loop-other.terms.items (not_below _ _ c.in-None.ensures))
+    kept_large_multiple (times_term (c.args.mask, c.args.coefficient)) c.args.factors.now _ _ c.loop-other.other-index
+    (0, 0) (omega arith) c.loop-other.invariant.so_far
+    (large_add_new (times_term (c.args.mask, c.args.coefficient) (get_or c.args.factors.now c.loop-other.other-index
+    (0, 0))) c.loop-other.terms.items (not_below _ _ c.in-None.ensures))
 
 pub returns-in_err-put_term-in-Some-clause-large :
     goal.returns-in_err-put_term-in-Some-clause-large
 returns-in_err-put_term-in-Some-clause-large c =
     let p = err_from_is_err_and c.from_residual.result c.from_residual.ensures.1 in
-    rw (p.1, p.2) (λ e. kept_large_multiple (times_term (c.args.mask, c.args.coefficient)) c.args.factors.now _ _ c.loop-other.other-index (0, 0) (omega arith) c.loop-other.invariant.so_far
-    (subst (λ (n : ℕ). HasLarge (add_term (bit_or c.args.mask (get_or c.args.factors.now c.loop-other.other-index (0, 0)).0, n) c.loop-other.terms.items)) c.in-Some.ensures.1 (c.in_err-put_term-in-Some.ensures.large e)))
+    rw (p.1, p.2) (λ e. kept_large_multiple (times_term (c.args.mask, c.args.coefficient)) c.args.factors.now _ _
+    c.loop-other.other-index (0, 0) (omega arith) c.loop-other.invariant.so_far
+    (subst (λ (n : ℕ).
+    HasLarge (add_term (bit_or c.args.mask (get_or c.args.factors.now c.loop-other.other-index (0, 0)).0, n)
+    c.loop-other.terms.items)) c.in-Some.ensures.1 (c.in_err-put_term-in-Some.ensures.large e)))

@@ -5,6 +5,7 @@ use Rattle.cost_polynomials.proofs.gathering.put_multiples.Given as goal
 
 abbrev pub invariant-loop-other : goal.invariant-loop-other
 invariant-loop-other l = record {
-  so_far : gathered (map (times_term (l.mask, l.coefficient)) (drop l.other-index l.factors)) l.terms.items ≡ gathered (map (times_term (l.mask, l.coefficient)) l.factors) l.fn.terms.items;
+  so_far : gathered (map (times_term (l.mask, l.coefficient)) (drop l.other-index l.factors)) l.terms.items
+      ≡ gathered (map (times_term (l.mask, l.coefficient)) l.factors) l.fn.terms.items;
   fits : AllFit l.terms.items;
 }

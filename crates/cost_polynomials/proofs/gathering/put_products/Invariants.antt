@@ -5,6 +5,7 @@ use Rattle.cost_polynomials.proofs.gathering.put_products.Given as goal
 
 abbrev pub invariant-loop-mask : goal.invariant-loop-mask
 invariant-loop-mask l = record {
-  so_far : gathered (pair_products (drop l.mask-index l.left) l.right) l.terms.items ≡ gathered (pair_products l.left l.right) l.fn.terms.items;
+  so_far : gathered (pair_products (drop l.mask-index l.left) l.right) l.terms.items
+      ≡ gathered (pair_products l.left l.right) l.fn.terms.items;
   fits : AllFit l.terms.items;
 }

@@ -6,7 +6,8 @@ use Rattle.csv_tables.proofs.cells.read_cells.Given as goal
 -- the rows that are left decide
 abbrev pub invariant-loop : goal.invariant-loop
 invariant-loop l = record {
-  pushed : l.cells.items ++ flat_map (values_from 0 l.columns) l.records ≡ flat_map (values_from 0 l.columns) l.fn.records;
+  pushed : l.cells.items ++ flat_map (values_from 0 l.columns) l.records
+      ≡ flat_map (values_from 0 l.columns) l.fn.records;
   sound : list_all (are_cells 0 l.columns) l.records ≡ true;
   count : l.counter + length l.records ≡ l.row_count;
 }

@@ -31,11 +31,13 @@ loop-column-preserved c =
     let full = sym c.is_empty.ensures ∙ c.if-is_empty.false in
     let new = sym c.is_named.ensures ∙ c.if-is_named.false in
     let text : IsUtf8 c.in-Ok.name.now = rw same.0 same.1 in
-    let good : is_bad_name earlier c.in_ok-of.field-0 ≡ false = rw c.in_ok-of.ensures (good_name earlier c.in-Ok.name.now full text (rw c.deref.ensures.value at new)) in
+    let good : is_bad_name earlier c.in_ok-of.field-0 ≡ false =
+    rw c.in_ok-of.ensures (good_name earlier c.in-Ok.name.now full text (rw c.deref.ensures.value at new)) in
     record {
       read =
           heading_more c.loop-column.column (fields_of c.args.row.now) _ _ heading within items
           c.loop-column.invariant.read name tag;
       names = rw (name_more c.loop-column.headings.items c.push.new.self.items heading items)
-          (passed (c.loop-column.column + 1) c.loop-column.column earlier (fields_of c.args.row.now) c.in_ok-of.field-0 _ within name good c.loop-column.invariant.names);
+          (passed (c.loop-column.column + 1) c.loop-column.column earlier (fields_of c.args.row.now) c.in_ok-of.field-0
+          _ within name good c.loop-column.invariant.names);
     }

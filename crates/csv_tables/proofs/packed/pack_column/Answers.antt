@@ -12,10 +12,13 @@ pub unreachable-requires : goal.unreachable-requires
 unreachable-requires c =
     let width = c.columns-width.ensures.value in
     let inside = column_in_range c.args.schema.now c.args.column kind.Int c.requires.kind in
-    let place = rw (← c.requires.kept.full) at (cell_place c.args.row_count (length c.args.schema.now) c.loop-row.row c.args.column c.loop-row-test.true inside) in
+    let place = rw (← c.requires.kept.full) at (cell_place c.args.row_count (length c.args.schema.now) c.loop-row.row
+    c.args.column c.loop-row-test.true inside) in
     let read = rw width at c.index-cells-row.is in
-    let fits = kept_fits c.args.schema.now c.args.row_count c.args.cells.now c.requires.kept c.loop-row.row c.args.column kind.Int c.index-cells-row.result
-    c.loop-row-test.true c.requires.kind (slice_get_read c.args.cells.now _ _ c.index-cells-row.result refl place read) in
+    let fits = kept_fits c.args.schema.now c.args.row_count c.args.cells.now c.requires.kept c.loop-row.row
+    c.args.column kind.Int c.index-cells-row.result
+    c.loop-row-test.true c.requires.kind (slice_get_read c.args.cells.now _ _ c.index-cells-row.result refl place read)
+    in
     let text = ap kind_of c.in-Text.is in
     cc
 
@@ -23,7 +26,8 @@ pub loop-row-preserved : goal.loop-row-preserved
 loop-row-preserved c =
     let width = c.columns-width.ensures.value in
     let inside = column_in_range c.args.schema.now c.args.column kind.Int c.requires.kind in
-    let place = rw (← c.requires.kept.full) at (cell_place c.args.row_count (length c.args.schema.now) c.loop-row.row c.args.column c.loop-row-test.true inside) in
+    let place = rw (← c.requires.kept.full) at (cell_place c.args.row_count (length c.args.schema.now) c.loop-row.row
+    c.args.column c.loop-row-test.true inside) in
     let read = rw width at c.index-cells-row.is in
     let at = slice_get_read c.args.cells.now _ _ c.index-cells-row.result refl place read ∙ ap Some c.in-Int.is in
     let fits : SFits w64 c.in-Int.number = search rules in

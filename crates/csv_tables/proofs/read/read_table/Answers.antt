@@ -6,7 +6,8 @@ use Rattle.csv_tables.specs.Headers.{heading_of}
 use Rattle.csv_tables.specs.Reading.{records_of}
 use Rattle.csv_tables.specs.declared.faults.TableFault.TheVariants.{Columns}
 use Rattle.csv_tables.proofs.Sound.{Read, cell_fault_is_first, sound_file}
-use Rattle.csv_tables.proofs.Spelled.{columns_first, few_rows, first_read, name_first, no_header, none_counted, refused, shape_first, some_counted, uneven_fits}
+use Rattle.csv_tables.proofs.Spelled.{columns_first, few_rows, first_read, name_first, no_header, none_counted, refused}
+use Rattle.csv_tables.proofs.Spelled.{shape_first, some_counted, uneven_fits}
 use Rattle.csv_tables.proofs.read.read_table.Goals as goal
 
 pub returns-in_default-clause-fault : goal.returns-in_default-clause-fault
@@ -16,22 +17,27 @@ returns-in_default-clause-fault c _ =
 
 pub returns-then-column_count-gt-COLUMN_LIMIT-clause-fault : goal.returns-then-column_count-gt-COLUMN_LIMIT-clause-fault
 returns-then-column_count-gt-COLUMN_LIMIT-clause-fault c _ =
-    let headed = some_counted (records_of c.args.bytes.now) c.shape_of-shape.result c.in-Some.column_count c.shape_of-shape.ensures c.in-Some.is in
+    let headed = some_counted (records_of c.args.bytes.now) c.shape_of-shape.result c.in-Some.column_count
+    c.shape_of-shape.ensures c.in-Some.is in
     let many = rw headed.width_is at c.if-column_count-gt-COLUMN_LIMIT.true in
     refused c.args.bytes.now headed.header headed.rows Columns headed.are (columns_first headed.header headed.rows many)
 
 pub read_header-requires : goal.read_header-requires
 read_header-requires c =
-    let headed = some_counted (records_of c.args.bytes.now) c.shape_of-shape.result c.in-Some.column_count c.shape_of-shape.ensures c.in-Some.is in
-    let first = first_read (records_of c.args.bytes.now) c.shape_of-shape.result c.in-Some.column_count c.in_ok-next.field-0 (fields_of c.next.new.row) c.next.new.self headed
+    let headed = some_counted (records_of c.args.bytes.now) c.shape_of-shape.result c.in-Some.column_count
+    c.shape_of-shape.ensures c.in-Some.is in
+    let first = first_read (records_of c.args.bytes.now) c.shape_of-shape.result c.in-Some.column_count
+    c.in_ok-next.field-0 (fields_of c.next.new.row) c.next.new.self headed
     (sym c.of-records.ensures ∙ c.in_ok-next.ensures) in
     let few = rw first.width_is at c.if-column_count-gt-COLUMN_LIMIT.false in
     few
 
 pub returns-in_err-headings-clause-fault : goal.returns-in_err-headings-clause-fault
 returns-in_err-headings-clause-fault c =
-    let headed = some_counted (records_of c.args.bytes.now) c.shape_of-shape.result c.in-Some.column_count c.shape_of-shape.ensures c.in-Some.is in
-    let first = first_read (records_of c.args.bytes.now) c.shape_of-shape.result c.in-Some.column_count c.in_ok-next.field-0 (fields_of c.next.new.row) c.next.new.self headed
+    let headed = some_counted (records_of c.args.bytes.now) c.shape_of-shape.result c.in-Some.column_count
+    c.shape_of-shape.ensures c.in-Some.is in
+    let first = first_read (records_of c.args.bytes.now) c.shape_of-shape.result c.in-Some.column_count
+    c.in_ok-next.field-0 (fields_of c.next.new.row) c.next.new.self headed
     (sym c.of-records.ensures ∙ c.in_ok-next.ensures) in
     let few = rw first.width_is at c.if-column_count-gt-COLUMN_LIMIT.false in
     let p = err_from_is_err_and c.from_residual-in_err-headings.result c.from_residual-in_err-headings.ensures.1 in
@@ -40,56 +46,74 @@ returns-in_err-headings-clause-fault c =
 
 pub fault_of_shape-requires-clause-uneven : goal.fault_of_shape-requires-clause-uneven
 fault_of_shape-requires-clause-uneven c =
-    let headed = some_counted (records_of c.args.bytes.now) c.shape_of-shape.result c.in-Some.column_count c.shape_of-shape.ensures c.in-Some.is in
-    let first = first_read (records_of c.args.bytes.now) c.shape_of-shape.result c.in-Some.column_count c.in_ok-next.field-0 (fields_of c.next.new.row) c.next.new.self headed
+    let headed = some_counted (records_of c.args.bytes.now) c.shape_of-shape.result c.in-Some.column_count
+    c.shape_of-shape.ensures c.in-Some.is in
+    let first = first_read (records_of c.args.bytes.now) c.shape_of-shape.result c.in-Some.column_count
+    c.in_ok-next.field-0 (fields_of c.next.new.row) c.next.new.self headed
     (sym c.of-records.ensures ∙ c.in_ok-next.ensures) in
     let few = rw first.width_is at c.if-column_count-gt-COLUMN_LIMIT.false in
     rw first.shape_is.row_count
-    (uneven_fits (length (fields_of c.next.new.row)) c.next.new.self c.shape_of-shape.result.uneven (sym first.shape_is.uneven))
+    (uneven_fits (length (fields_of c.next.new.row)) c.next.new.self c.shape_of-shape.result.uneven
+    (sym first.shape_is.uneven))
 
 pub returns-in-Some-fault_of_shape-clause-fault : goal.returns-in-Some-fault_of_shape-clause-fault
 returns-in-Some-fault_of_shape-clause-fault c _ =
-    let headed = some_counted (records_of c.args.bytes.now) c.shape_of-shape.result c.in-Some.column_count c.shape_of-shape.ensures c.in-Some.is in
-    let first = first_read (records_of c.args.bytes.now) c.shape_of-shape.result c.in-Some.column_count c.in_ok-next.field-0 (fields_of c.next.new.row) c.next.new.self headed
+    let headed = some_counted (records_of c.args.bytes.now) c.shape_of-shape.result c.in-Some.column_count
+    c.shape_of-shape.ensures c.in-Some.is in
+    let first = first_read (records_of c.args.bytes.now) c.shape_of-shape.result c.in-Some.column_count
+    c.in_ok-next.field-0 (fields_of c.next.new.row) c.next.new.self headed
     (sym c.of-records.ensures ∙ c.in_ok-next.ensures) in
     let few = rw first.width_is at c.if-column_count-gt-COLUMN_LIMIT.false in
-    let is = rw (first.shape_is.row_count, first.shape_is.uneven, first.width_is) at (sym c.fault_of_shape.ensures ∙ c.in-Some-fault_of_shape.is) in
+    let is = rw (first.shape_is.row_count, first.shape_is.uneven, first.width_is) at (sym c.fault_of_shape.ensures
+    ∙ c.in-Some-fault_of_shape.is) in
     refused c.args.bytes.now (fields_of c.next.new.row) c.next.new.self c.in-Some-fault_of_shape.fault first.are
-    (shape_first (fields_of c.next.new.row) c.next.new.self c.in-Some-fault_of_shape.fault few c.in_ok-headings.ensures.ok.1 is)
+    (shape_first (fields_of c.next.new.row) c.next.new.self c.in-Some-fault_of_shape.fault few
+    c.in_ok-headings.ensures.ok.1 is)
 
 pub survey_rows-requires-clause-count : goal.survey_rows-requires-clause-count
 survey_rows-requires-clause-count c =
-    let headed = some_counted (records_of c.args.bytes.now) c.shape_of-shape.result c.in-Some.column_count c.shape_of-shape.ensures c.in-Some.is in
-    let first = first_read (records_of c.args.bytes.now) c.shape_of-shape.result c.in-Some.column_count c.in_ok-next.field-0 (fields_of c.next.new.row) c.next.new.self headed
+    let headed = some_counted (records_of c.args.bytes.now) c.shape_of-shape.result c.in-Some.column_count
+    c.shape_of-shape.ensures c.in-Some.is in
+    let first = first_read (records_of c.args.bytes.now) c.shape_of-shape.result c.in-Some.column_count
+    c.in_ok-next.field-0 (fields_of c.next.new.row) c.next.new.self headed
     (sym c.of-records.ensures ∙ c.in_ok-next.ensures) in
     let few = rw first.width_is at c.if-column_count-gt-COLUMN_LIMIT.false in
     sym first.shape_is.row_count
 
 pub survey_rows-requires-clause-few : goal.survey_rows-requires-clause-few
 survey_rows-requires-clause-few c =
-    let headed = some_counted (records_of c.args.bytes.now) c.shape_of-shape.result c.in-Some.column_count c.shape_of-shape.ensures c.in-Some.is in
-    let first = first_read (records_of c.args.bytes.now) c.shape_of-shape.result c.in-Some.column_count c.in_ok-next.field-0 (fields_of c.next.new.row) c.next.new.self headed
+    let headed = some_counted (records_of c.args.bytes.now) c.shape_of-shape.result c.in-Some.column_count
+    c.shape_of-shape.ensures c.in-Some.is in
+    let first = first_read (records_of c.args.bytes.now) c.shape_of-shape.result c.in-Some.column_count
+    c.in_ok-next.field-0 (fields_of c.next.new.row) c.next.new.self headed
     (sym c.of-records.ensures ∙ c.in_ok-next.ensures) in
     let few = rw first.width_is at c.if-column_count-gt-COLUMN_LIMIT.false in
-    let none = rw (first.shape_is.row_count, first.shape_is.uneven, first.width_is) at (sym c.fault_of_shape.ensures ∙ c.in_default-fault_of_shape.is) in
+    let none = rw (first.shape_is.row_count, first.shape_is.uneven, first.width_is) at (sym c.fault_of_shape.ensures
+    ∙ c.in_default-fault_of_shape.is) in
     rw first.shape_is.row_count (few_rows _ _ _ none)
 
 pub survey_rows-requires-clause-columns : goal.survey_rows-requires-clause-columns
 survey_rows-requires-clause-columns c =
-    let headed = some_counted (records_of c.args.bytes.now) c.shape_of-shape.result c.in-Some.column_count c.shape_of-shape.ensures c.in-Some.is in
-    let first = first_read (records_of c.args.bytes.now) c.shape_of-shape.result c.in-Some.column_count c.in_ok-next.field-0 (fields_of c.next.new.row) c.next.new.self headed
+    let headed = some_counted (records_of c.args.bytes.now) c.shape_of-shape.result c.in-Some.column_count
+    c.shape_of-shape.ensures c.in-Some.is in
+    let first = first_read (records_of c.args.bytes.now) c.shape_of-shape.result c.in-Some.column_count
+    c.in_ok-next.field-0 (fields_of c.next.new.row) c.next.new.self headed
     (sym c.of-records.ensures ∙ c.in_ok-next.ensures) in
     let few = rw first.width_is at c.if-column_count-gt-COLUMN_LIMIT.false in
     rw (c.deref.ensures.value, c.in_ok-headings.ensures.ok.0, length-map (fields_of c.next.new.row) heading_of) few
 
 pub returns-in-Some-bad_cell-clause-fault : goal.returns-in-Some-bad_cell-clause-fault
 returns-in-Some-bad_cell-clause-fault c _ =
-    let headed = some_counted (records_of c.args.bytes.now) c.shape_of-shape.result c.in-Some.column_count c.shape_of-shape.ensures c.in-Some.is in
-    let first = first_read (records_of c.args.bytes.now) c.shape_of-shape.result c.in-Some.column_count c.in_ok-next.field-0 (fields_of c.next.new.row) c.next.new.self headed
+    let headed = some_counted (records_of c.args.bytes.now) c.shape_of-shape.result c.in-Some.column_count
+    c.shape_of-shape.ensures c.in-Some.is in
+    let first = first_read (records_of c.args.bytes.now) c.shape_of-shape.result c.in-Some.column_count
+    c.in_ok-next.field-0 (fields_of c.next.new.row) c.next.new.self headed
     (sym c.of-records.ensures ∙ c.in_ok-next.ensures) in
     let few = rw first.width_is at c.if-column_count-gt-COLUMN_LIMIT.false in
-    let none = rw (first.shape_is.row_count, first.shape_is.uneven, first.width_is) at (sym c.fault_of_shape.ensures ∙ c.in_default-fault_of_shape.is) in
-    let file : Read c.args.bytes.now (fields_of c.next.new.row) c.next.new.self c.in_ok-headings.headings.items = record {
+    let none = rw (first.shape_is.row_count, first.shape_is.uneven, first.width_is) at (sym c.fault_of_shape.ensures
+    ∙ c.in_default-fault_of_shape.is) in
+    let file : Read c.args.bytes.now (fields_of c.next.new.row) c.next.new.self c.in_ok-headings.headings.items =
+    record {
       reads = first.are;
       columns = few;
       names = c.in_ok-headings.ensures.ok.1;
@@ -98,16 +122,21 @@ returns-in-Some-bad_cell-clause-fault c _ =
     } in
     let found = rw c.deref.ensures.value at c.in_ok-survey.ensures in
     refused c.args.bytes.now (fields_of c.next.new.row) c.next.new.self _ first.are
-    (cell_fault_is_first c.args.bytes.now (fields_of c.next.new.row) c.next.new.self c.in_ok-headings.headings.items c.in_ok-survey.survey (c.in-Some-bad_cell.number, c.in-Some-bad_cell.column) file found c.in-Some-bad_cell.is)
+    (cell_fault_is_first c.args.bytes.now (fields_of c.next.new.row) c.next.new.self c.in_ok-headings.headings.items
+    c.in_ok-survey.survey (c.in-Some-bad_cell.number, c.in-Some-bad_cell.column) file found c.in-Some-bad_cell.is)
 
 pub build-requires : goal.build-requires
 build-requires c =
-    let headed = some_counted (records_of c.args.bytes.now) c.shape_of-shape.result c.in-Some.column_count c.shape_of-shape.ensures c.in-Some.is in
-    let first = first_read (records_of c.args.bytes.now) c.shape_of-shape.result c.in-Some.column_count c.in_ok-next.field-0 (fields_of c.next.new.row) c.next.new.self headed
+    let headed = some_counted (records_of c.args.bytes.now) c.shape_of-shape.result c.in-Some.column_count
+    c.shape_of-shape.ensures c.in-Some.is in
+    let first = first_read (records_of c.args.bytes.now) c.shape_of-shape.result c.in-Some.column_count
+    c.in_ok-next.field-0 (fields_of c.next.new.row) c.next.new.self headed
     (sym c.of-records.ensures ∙ c.in_ok-next.ensures) in
     let few = rw first.width_is at c.if-column_count-gt-COLUMN_LIMIT.false in
-    let none = rw (first.shape_is.row_count, first.shape_is.uneven, first.width_is) at (sym c.fault_of_shape.ensures ∙ c.in_default-fault_of_shape.is) in
-    let file : Read c.args.bytes.now (fields_of c.next.new.row) c.next.new.self c.in_ok-headings.headings.items = record {
+    let none = rw (first.shape_is.row_count, first.shape_is.uneven, first.width_is) at (sym c.fault_of_shape.ensures
+    ∙ c.in_default-fault_of_shape.is) in
+    let file : Read c.args.bytes.now (fields_of c.next.new.row) c.next.new.self c.in_ok-headings.headings.items =
+    record {
       reads = first.are;
       columns = few;
       names = c.in_ok-headings.ensures.ok.1;
@@ -116,4 +145,5 @@ build-requires c =
     } in
     let found = rw c.deref.ensures.value at c.in_ok-survey.ensures in
     rw c.deref-2.ensures.value
-    (sound_file c.args.bytes.now (fields_of c.next.new.row) c.next.new.self c.in_ok-headings.headings.items c.in_ok-survey.survey file found c.in_default-bad_cell.is)
+    (sound_file c.args.bytes.now (fields_of c.next.new.row) c.next.new.self c.in_ok-headings.headings.items
+    c.in_ok-survey.survey file found c.in_default-bad_cell.is)

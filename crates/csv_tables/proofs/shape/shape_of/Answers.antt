@@ -18,4 +18,5 @@ returns c =
     let none = drop_all c.loop-byte.byte-index c.without_mark-bytes.result.now c.loop-byte-test.false in
     let total = rw (none, c.without_mark-bytes.ensures) at c.loop-byte.invariant.total in
     shape_is c.args.bytes.now c.loop-byte.count.shape
-    (closed (ends_at_end (state_at c.loop-byte.count.state)) c.loop-byte.count.shape _ c.loop-byte.count.field_count (sym c.is_inside.ensures ∙ c.if-is_inside.false) total)
+    (closed (ends_at_end (state_at c.loop-byte.count.state)) c.loop-byte.count.shape _ c.loop-byte.count.field_count
+    (sym c.is_inside.ensures ∙ c.if-is_inside.false) total)

@@ -5,7 +5,8 @@ use Rattle.fraction_math.proofs.exact_products.product.Goals as goal
 
 pub returns-in-None : goal.returns-in-None
 returns-in-None c = record {
-  value = too_large c.args.xs.now c.loop-x.x-index c.loop-x.all _ (omega arith) c.requires c.loop-x.invariant (not_below _ _ c.in-None.ensures);
+  value = too_large c.args.xs.now c.loop-x.x-index c.loop-x.all _ (omega arith) c.requires c.loop-x.invariant
+      (not_below _ _ c.in-None.ensures);
 }
 
 pub loop-x-preserved : goal.loop-x-preserved

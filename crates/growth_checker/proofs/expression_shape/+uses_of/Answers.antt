@@ -10,15 +10,18 @@ returns-in-Sel-clause-present t c = λ i.
 
 pub returns-in-Sum-clause-present : goal.returns-in-Sum-clause-present
 returns-in-Sum-clause-present t c = λ i.
-    rw c.in-Sum.is (union_has _ _ i _ _ (rw c.deref.ensures at (c.uses_of-l.ensures.present i)) (rw c.deref-in-Sum.ensures at (c.uses_of-r.ensures.present i)))
+    rw c.in-Sum.is (union_has _ _ i _ _ (rw c.deref.ensures at (c.uses_of-l.ensures.present i))
+    (rw c.deref-in-Sum.ensures at (c.uses_of-r.ensures.present i)))
 
 pub returns-in-Sum-clause-shared : goal.returns-in-Sum-clause-shared
 returns-in-Sum-clause-shared t c = λ i.
-    rw c.in-Sum.is (union_has _ _ i _ _ (rw c.deref.ensures at (c.uses_of-l.ensures.shared i)) (rw c.deref-in-Sum.ensures at (c.uses_of-r.ensures.shared i)))
+    rw c.in-Sum.is (union_has _ _ i _ _ (rw c.deref.ensures at (c.uses_of-l.ensures.shared i))
+    (rw c.deref-in-Sum.ensures at (c.uses_of-r.ensures.shared i)))
 
 pub returns-in-Mul-clause-present : goal.returns-in-Mul-clause-present
 returns-in-Mul-clause-present t c = λ i.
-    rw c.in-Mul.is (union_has _ _ i _ _ (rw c.deref-in-Mul.ensures at (c.uses_of-l-in-Mul.ensures.present i)) (rw c.deref-in-Mul-2.ensures at (c.uses_of-r-in-Mul.ensures.present i)))
+    rw c.in-Mul.is (union_has _ _ i _ _ (rw c.deref-in-Mul.ensures at (c.uses_of-l-in-Mul.ensures.present i))
+    (rw c.deref-in-Mul-2.ensures at (c.uses_of-r-in-Mul.ensures.present i)))
 
 pub returns-in-Mul-clause-shared : goal.returns-in-Mul-clause-shared
 returns-in-Mul-clause-shared t c = λ i.

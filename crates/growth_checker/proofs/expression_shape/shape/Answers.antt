@@ -20,12 +20,14 @@ returns-then-shared-ne0-clause-shared c = λ i e.
 pub expand-requires-clause-apart : goal.expand-requires-clause-apart
 expand-requires-clause-apart c =
     let none : c.uses_of-shared.result.shared ≡ 0 = omega arith in
-    apart_from_unshared (formula c.args.e.now) (λ i. sym (c.uses_of-shared.ensures.shared i) ∙ ap (λ m. has m i) none ∙ has-zero i)
+    apart_from_unshared (formula c.args.e.now) (λ i. sym (c.uses_of-shared.ensures.shared i) ∙ ap (λ m. has m i) none
+    ∙ has-zero i)
 
 pub returns-in-Ok-clause-value : goal.returns-in-Ok-clause-value
 returns-in-Ok-clause-value c = λ s.
     let none : c.uses_of-shared.result.shared ≡ 0 = omega arith in
-    let apart = apart_from_unshared (formula c.args.e.now) (λ i. sym (c.uses_of-shared.ensures.shared i) ∙ ap (λ m. has m i) none ∙ has-zero i) in
+    let apart = apart_from_unshared (formula c.args.e.now) (λ i. sym (c.uses_of-shared.ensures.shared i)
+    ∙ ap (λ m. has m i) none ∙ has-zero i) in
     rw c.in-Ok.ensures.terms (value_expanded (formula c.args.e.now) s apart)
 
 pub returns-in-Ok-clause-vectors : goal.returns-in-Ok-clause-vectors

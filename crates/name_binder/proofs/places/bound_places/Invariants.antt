@@ -7,4 +7,5 @@ use Rattle.name_binder.proofs.places.bound_places.Given as goal
 abbrev pub invariant-loop-entry : goal.invariant-loop-entry
 invariant-loop-entry g l =
     (l.places.items ≡ places_of (g.S.Schemas.tables l.schemas) (take l.entry-index l.entries))
-    × (first_unknown_table (g.S.Schemas.tables l.schemas) (drop l.entry-index l.entries) ≡ first_unknown_table (g.S.Schemas.tables l.schemas) l.entries)
+    × (first_unknown_table (g.S.Schemas.tables l.schemas) (drop l.entry-index l.entries)
+    ≡ first_unknown_table (g.S.Schemas.tables l.schemas) l.entries)

@@ -5,4 +5,5 @@ use Rattle.name_binder.proofs.references.first_unknown.Given as goal
 
 -- the references that are left decide
 abbrev pub invariant-loop-r : goal.invariant-loop-r
-invariant-loop-r l = find (is_unknown l.places) (map (λ r. r.now) (drop l.r-index l.refs)) ≡ find (is_unknown l.places) (map (λ r. r.now) l.refs)
+invariant-loop-r l = find (is_unknown l.places) (map (λ r. r.now) (drop l.r-index l.refs))
+    ≡ find (is_unknown l.places) (map (λ r. r.now) l.refs)

@@ -6,4 +6,5 @@ use Rattle.name_binder.proofs.references.push_cond_refs.Given as goal
 -- the conditions that are left add the rest
 abbrev pub invariant-loop-cond : goal.invariant-loop-cond
 invariant-loop-cond l =
-    map (λ r. r.now) l.refs.items ++ flat_map cond_refs (drop l.cond-index l.conds) ≡ map (λ r. r.now) l.initial.refs.items ++ flat_map cond_refs l.conds
+    map (λ r. r.now) l.refs.items ++ flat_map cond_refs (drop l.cond-index l.conds)
+    ≡ map (λ r. r.now) l.initial.refs.items ++ flat_map cond_refs l.conds

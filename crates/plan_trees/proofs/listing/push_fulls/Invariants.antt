@@ -3,4 +3,5 @@ use Rattle.plan_trees.proofs.listing.push_fulls.Given as goal
 
 -- those before this number are there
 abbrev pub invariant-loop-column : goal.invariant-loop-column
-invariant-loop-column l = GainsAll (IsAccessOf l.q l.ix l.place) (IsFullBefore l.place l.column) l.initial.list.items l.list.items
+invariant-loop-column l =
+    GainsAll (IsAccessOf l.q l.ix l.place) (IsFullBefore l.place l.column) l.initial.list.items l.list.items

@@ -9,4 +9,6 @@ loop-access-init c = gains_nothing _ _ _ (λ step wanted valid. absurd (no_loop 
 pub loop-access-preserved : goal.loop-access-preserved
 loop-access-preserved c =
     let less : c.loop-access.access-index < length c.args.accesses.now = omega arith in
-    loops_more c.args.q.now c.args.ix.now c.args.set c.args.place _ _ _ _ _ _ c.requires less (slice_get-get_or c.args.accesses.now c.loop-access.access-index _ less) c.loop-access.invariant c.in_ok-push_step.ensures
+    loops_more c.args.q.now c.args.ix.now c.args.set c.args.place _ _ _ _ _ _ c.requires less
+    (slice_get-get_or c.args.accesses.now c.loop-access.access-index _ less) c.loop-access.invariant
+    c.in_ok-push_step.ensures

@@ -3,4 +3,5 @@ use Rattle.plan_trees.proofs.listing.push_probes.Given as goal
 
 -- those before this edge are there
 abbrev pub invariant-loop-edge : goal.invariant-loop-edge
-invariant-loop-edge l = GainsAll (IsStepInto l.q l.ix l.set l.place) (IsProbeBefore l.place l.edge) l.initial.list.items l.list.items
+invariant-loop-edge l = GainsAll (IsStepInto l.q l.ix l.set l.place) (IsProbeBefore l.place l.edge) l.initial.list.items
+    l.list.items

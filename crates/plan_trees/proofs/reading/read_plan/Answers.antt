@@ -11,4 +11,5 @@ pub returns-in-Ok-clause-found : goal.returns-in-Ok-clause-found
 returns-in-Ok-clause-found c =
     let read : top_at c.args.q.now c.args.text.now ≡ Some (top_tree c.in_ok-top.top) =
     ap (top_at c.args.q.now) (sym c.as_bytes.ensures.value) ∙ c.in_ok-top.ensures in
-    subst (λ (top : Top). IsPlanText c.args.q.now c.args.text.now (top_tree top)) (sym c.in-Ok.ensures.ok) (top_taken c.args.q.now c.args.text.now (top_tree c.in_ok-top.top) read)
+    subst (λ (top : Top). IsPlanText c.args.q.now c.args.text.now (top_tree top)) (sym c.in-Ok.ensures.ok)
+    (top_taken c.args.q.now c.args.text.now (top_tree c.in_ok-top.top) read)

@@ -4,4 +4,5 @@ use Rattle.plan_trees.proofs.validity.has_groups.Given as goal
 
 -- the columns that are left decide
 abbrev pub invariant-loop-group : goal.invariant-loop-group
-invariant-loop-group l = has_all_keys l.set (map ascending (drop l.group-index l.groups)) ≡ has_all_keys l.set (map ascending l.groups)
+invariant-loop-group l = has_all_keys l.set (map ascending (drop l.group-index l.groups))
+    ≡ has_all_keys l.set (map ascending l.groups)

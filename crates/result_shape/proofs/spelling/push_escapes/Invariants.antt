@@ -9,5 +9,6 @@ abbrev pub invariant-loop-i : goal.invariant-loop-i
 invariant-loop-i l = record {
   behind : l.start ≤ l.i;
   cut : IsCharBoundary l.words l.start;
-  so_far : string_bytes l.text ++ drop l.start (take l.i l.words) ≡ string_bytes l.fn.text ++ flat_map escaped (take l.i l.words);
+  so_far : string_bytes l.text ++ drop l.start (take l.i l.words) ≡ string_bytes l.fn.text
+      ++ flat_map escaped (take l.i l.words);
 }

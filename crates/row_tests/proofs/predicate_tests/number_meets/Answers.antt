@@ -9,4 +9,5 @@ pub returns : goal.returns
 returns c =
     let fits : SFits w64 (get_or c.args.numbers.now c.args.row (pos 0)) = search rules in
     c.holds.ensures ∙ (ap (number_holds c.args.test) (to_z-of_z w64 (get_or c.args.numbers.now c.args.row (pos 0)) fits)
-    ∙ number_found c.args.test c.args.numbers.now c.args.row (get_or c.args.numbers.now c.args.row (pos 0)) (pos 0) (omega arith) refl)
+    ∙ number_found c.args.test c.args.numbers.now c.args.row (get_or c.args.numbers.now c.args.row (pos 0)) (pos 0)
+    (omega arith) refl)

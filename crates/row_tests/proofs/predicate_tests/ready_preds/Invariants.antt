@@ -7,5 +7,6 @@ use Rattle.row_tests.proofs.predicate_tests.ready_preds.Given as goal
 abbrev pub invariant-loop-pred : goal.invariant-loop-pred
 invariant-loop-pred l =
     (row : ℕ)
-    → (all_hold l.args l.table l.ready.items row && row_passes l.args (drop l.pred-index l.preds) l.place (slice_index_or l.table.rows row []))
+    → (all_hold l.args l.table l.ready.items row && row_passes l.args (drop l.pred-index l.preds) l.place
+    (slice_index_or l.table.rows row []))
     ≡ row_passes l.args l.preds l.place (slice_index_or l.table.rows row [])

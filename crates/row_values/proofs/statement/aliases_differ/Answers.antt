@@ -11,7 +11,9 @@ loop-i-preserved c =
       grind (arith, common_steps),
       λ k d. below_more (λ k. IsSchema (get_or c.args.places.now k d).schema) c.loop-i.i
           (λ k. c.loop-i.invariant.1 k d)
-          (subst (λ (place : Place). IsSchema place.schema) (get_or_read_under c.args.places.now c.loop-i.i _ c.index-places-i.result d c.index-places-i.is within refl) c.columns.ensures.sound) k,
+          (subst (λ (place : Place). IsSchema place.schema)
+          (get_or_read_under c.args.places.now c.loop-i.i _ c.index-places-i.result d c.index-places-i.is within
+          refl) c.columns.ensures.sound) k,
     )
 
 pub returns-clause-schemas : goal.returns-clause-schemas

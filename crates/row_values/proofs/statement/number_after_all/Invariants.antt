@@ -7,4 +7,5 @@ use Rattle.row_values.proofs.statement.number_after_all.Given as goal
 abbrev pub invariant-loop-operand : goal.invariant-loop-operand
 invariant-loop-operand l =
     (l.after ≤ l.next + l.operand-index)
-    × ((rest : List ℕ) → are_numbered l.next (flat_map operand_parameters l.operands ++ rest) ≡ are_numbered l.after (flat_map operand_parameters (drop l.operand-index l.operands) ++ rest))
+    × ((rest : List ℕ) → are_numbered l.next (flat_map operand_parameters l.operands ++ rest)
+    ≡ are_numbered l.after (flat_map operand_parameters (drop l.operand-index l.operands) ++ rest))

@@ -6,5 +6,7 @@ use Rattle.row_values.proofs.statement.parameter_kinds.Goals as goal
 
 pub loop-pred-preserved : goal.loop-pred-preserved
 loop-pred-preserved c =
-    kinds_more c.args.places.now c.args.preds.now c.loop-pred.pred-index c.pred-item.result c.unwrap_or-kind.result c.loop-pred.kinds _ _ c.loop-pred-test.true c.pred-item.is
-    (c.unwrap_or-kind.ensures ∙ ap (λ (k : Option Kind). unwrap_or k kind.Int) c.kind_of_column.ensures) c.push_test.ensures c.loop-pred.invariant
+    kinds_more c.args.places.now c.args.preds.now c.loop-pred.pred-index c.pred-item.result c.unwrap_or-kind.result
+    c.loop-pred.kinds _ _ c.loop-pred-test.true c.pred-item.is
+    (c.unwrap_or-kind.ensures ∙ ap (λ (k : Option Kind). unwrap_or k kind.Int) c.kind_of_column.ensures)
+    c.push_test.ensures c.loop-pred.invariant

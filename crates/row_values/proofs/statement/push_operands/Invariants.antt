@@ -7,4 +7,5 @@ use Rattle.row_values.proofs.statement.push_operands.Given as goal
 abbrev pub invariant-loop-operand : goal.invariant-loop-operand
 invariant-loop-operand l =
     (length l.kinds + length (flat_map operand_parameters (drop l.operand-index l.operands)) ≤ 128)
-    × (l.kinds ++ map (λ _. l.kind) (flat_map operand_parameters (drop l.operand-index l.operands)) ≡ l.initial.kinds ++ map (λ _. l.kind) (flat_map operand_parameters l.operands))
+    × (l.kinds ++ map (λ _. l.kind) (flat_map operand_parameters (drop l.operand-index l.operands))
+    ≡ l.initial.kinds ++ map (λ _. l.kind) (flat_map operand_parameters l.operands))

@@ -12,9 +12,14 @@ pub returns-else-position-eq0 : goal.returns-else-position-eq0
 returns-else-position-eq0 c =
     let short : c.args.position - 1 < length c.args.rows.now = omega arith in
     let d = cell_at c.args.t.now 0 c.args.column in
-    let inside : c.args.position < length (cells_of c.args.t.now c.args.column c.args.rows.now) = rw length-map c.requires.position in
-    let last = get_or-map (λ row. cell_at c.args.t.now row c.args.column) c.args.rows.now (c.args.position - 1) 0 d short in
-    let here = get_or-map (λ row. cell_at c.args.t.now row c.args.column) c.args.rows.now c.args.position 0 d c.requires.position in
-    let new = rw (last, here) at (new_by_last cell_order cell_order_total (cells_of c.args.t.now c.args.column c.args.rows.now)
-    (cells_rise c.args.t.now c.args.column c.args.rows.now c.requires.in_order) c.args.position d c.if-position-eq0.false inside) in
+    let inside : c.args.position < length (cells_of c.args.t.now c.args.column c.args.rows.now) =
+    rw length-map c.requires.position in
+    let last = get_or-map (λ row. cell_at c.args.t.now row c.args.column) c.args.rows.now (c.args.position - 1) 0 d
+    short in
+    let here = get_or-map (λ row. cell_at c.args.t.now row c.args.column) c.args.rows.now c.args.position 0 d
+    c.requires.position in
+    let new = rw (last, here) at
+    (new_by_last cell_order cell_order_total (cells_of c.args.t.now c.args.column c.args.rows.now)
+    (cells_rise c.args.t.now c.args.column c.args.rows.now c.requires.in_order) c.args.position d
+    c.if-position-eq0.false inside) in
     rw c.has_same_cell.ensures new

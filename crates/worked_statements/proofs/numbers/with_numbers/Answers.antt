@@ -11,5 +11,6 @@ of-requires-2-clause-sound c = numbers_sound _ _ _ _ _ _ _ _ (c.are_sound.ensure
 
 pub invariant_of-result : goal.invariant_of-result
 invariant_of-result c = record {
-  sound = subst (λ s. IsSoundStats c.args.query s) (sym c.in_ok-stats.ensures) (numbers_sound _ _ _ _ _ _ _ _ (c.are_sound.ensures (search rules)));
+  sound = subst (λ s. IsSoundStats c.args.query s) (sym c.in_ok-stats.ensures)
+      (numbers_sound _ _ _ _ _ _ _ _ (c.are_sound.ensures (search rules)));
 }

@@ -6,7 +6,8 @@ use Rattle.worked_statements.proofs.soundness.are_sound.Goals as goal
 pub returns : goal.returns
 returns c = λ small.
     let Matches : List Pred → Type 0 =
-    λ preds. (j : ℕ) (pred : Pred) → slice_get preds j ≡ Some pred → IsWithin (slice_index c.args.rows.now pred.at.place) (slice_index c.args.matching.now j) in record {
+    λ preds. (j : ℕ) (pred : Pred) → slice_get preds j ≡ Some pred
+    → IsWithin (slice_index c.args.rows.now pred.at.place) (slice_index c.args.matching.now j) in record {
       weights_fit = search rules;
       row_counts = search rules;
       fixed_counts = search rules;

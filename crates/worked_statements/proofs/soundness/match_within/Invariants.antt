@@ -5,4 +5,5 @@ use Rattle.worked_statements.proofs.soundness.match_within.Given as goal
 
 abbrev pub invariant-loop-j : goal.invariant-loop-j
 invariant-loop-j l =
-    (j : ℕ) (pred : Pred) → j < l.j → slice_get l.preds j ≡ Some pred → IsWithin (slice_index l.rows pred.at.place) (slice_index l.matching j)
+    (j : ℕ) (pred : Pred) → j < l.j → slice_get l.preds j ≡ Some pred
+    → IsWithin (slice_index l.rows pred.at.place) (slice_index l.matching j)

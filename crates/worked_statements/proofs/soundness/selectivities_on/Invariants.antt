@@ -4,4 +4,5 @@ use Rattle.worked_statements.proofs.soundness.selectivities_on.Given as goal
 
 -- the predicates that are left add the rest
 abbrev pub invariant-loop-pred : goal.invariant-loop-pred
-invariant-loop-pred l = (l.count ≤ l.pred-index) × (l.count + selectivities_on l.place (drop l.pred-index l.preds) ≡ selectivities_on l.place l.preds)
+invariant-loop-pred l = (l.count ≤ l.pred-index) × (l.count + selectivities_on l.place (drop l.pred-index l.preds)
+    ≡ selectivities_on l.place l.preds)

@@ -10,14 +10,17 @@ loop-mask-init c =
     record {
       so_far = omega arith;
       same = same;
-      coefficients = subst (λ (ts : List Term). All (λ t. 1 ≤ t.1) ts) (sym read) (coefficients_positive 0 _ c.self.invariant.rising);
+      coefficients = subst (λ (ts : List Term). All (λ t. 1 ≤ t.1) ts) (sym read)
+          (coefficients_positive 0 _ c.self.invariant.rising);
       numbers = subst (λ (ts : List Term). IsVectorFor ts c.args.s.now) (sym same) c.requires;
     }
 
 pub returns-clause-positive : goal.returns-clause-positive
 returns-clause-positive c =
     let items = c.as_slice-mask-items.result.now in
-    let some : 0 < length items = subst (λ (ts : List Term). 0 < length ts) (sym c.as_slice-mask-items.ensures.value) c.self.invariant.some in
-    let worth = value_positive items c.args.s.now some c.loop-mask.invariant.coefficients c.loop-mask.invariant.numbers in
+    let some : 0 < length items =
+    subst (λ (ts : List Term). 0 < length ts) (sym c.as_slice-mask-items.ensures.value) c.self.invariant.some in
+    let worth = value_positive items c.args.s.now some c.loop-mask.invariant.coefficients c.loop-mask.invariant.numbers
+    in
     let end = value_end items c.args.s.now c.loop-mask.mask-index (omega arith) in
     omega (arith, worth, end, c.loop-mask.invariant.so_far)

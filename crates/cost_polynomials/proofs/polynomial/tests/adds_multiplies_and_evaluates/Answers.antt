@@ -5,5 +5,12 @@ use Rattle.cost_polynomials.proofs.polynomial.tests.adds_multiplies_and_evaluate
 
 pub eval-requires : goal.eval-requires
 eval-requires g c =
-    let e : c.in_ok-cost.cost ≡ (0, 10) ∷ (1, 2) ∷ [] = rw (c.in_ok-ten.ensures.terms, c.in_ok-mul_disjoint.ensures.terms, c.in_ok-two.ensures.terms, c.in_ok-first.ensures.terms) at c.in_ok-cost.ensures.terms in
-    rw e (vector_for 1 ((0, 10) ∷ (1, 2) ∷ []) (100 ∷ []) (omega arith, (omega arith, tt)) (omega arith) (All-from_recursion (λ n. 1 ≤ n) (100 ∷ []) (omega arith, tt)))
+    let e : c.in_ok-cost.cost ≡ (0, 10) ∷ (1, 2) ∷ [] =
+    rw (
+      c.in_ok-ten.ensures.terms,
+      c.in_ok-mul_disjoint.ensures.terms,
+      c.in_ok-two.ensures.terms,
+      c.in_ok-first.ensures.terms,
+    ) at c.in_ok-cost.ensures.terms in
+    rw e (vector_for 1 ((0, 10) ∷ (1, 2) ∷ []) (100 ∷ []) (omega arith, (omega arith, tt)) (omega arith)
+    (All-from_recursion (λ n. 1 ≤ n) (100 ∷ []) (omega arith, tt)))

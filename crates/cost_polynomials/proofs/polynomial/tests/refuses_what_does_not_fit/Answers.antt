@@ -7,7 +7,10 @@ abbrev nines : ℕ → List ℕ
 nines last = 9 ∷ 9 ∷ 9 ∷ 9 ∷ 9 ∷ 9 ∷ 9 ∷ last ∷ []
 
 counts : (last : ℕ) → 1 ≤ last → All (λ n. 1 ≤ n) (nines last)
-counts last h = All-from_recursion (λ n. 1 ≤ n) (nines last) (omega arith, (omega arith, (omega arith, (omega arith, (omega arith, (omega arith, (omega arith, (h, tt))))))))
+counts last h = All-from_recursion (λ n. 1 ≤ n) (nines last) (
+  omega arith,
+  (omega arith, (omega arith, (omega arith, (omega arith, (omega arith, (omega arith, (h, tt))))))),
+)
 
 pub eval-requires : goal.eval-requires
 eval-requires g c = vector_of_eight _ (nines 1) c.terms.ensures.valid (omega arith) (counts 1 (omega arith))

@@ -17,4 +17,5 @@ returns c =
     let place = rw (← c.self.invariant.kept.full) at (cell_place _ _ _ _ row column) in
     let read = rw (c.columns-width.ensures.value, c.as_slice.ensures.value) at c.index-as_slice-row.is in
     rw (← c.self.view_is)
-    (cell_in_rows _ _ c.self.inside.cells.items _ _ row column ∙ slice_get_read c.self.inside.cells.items _ _ _ refl place read)
+    (cell_in_rows _ _ c.self.inside.cells.items _ _ row column
+    ∙ slice_get_read c.self.inside.cells.items _ _ _ refl place read)

@@ -11,8 +11,10 @@ returns-in-Int-clause-value c =
     let read = rw c.as_slice.ensures.value at c.index-as_slice-column.is in
     let one = rw length-map at c.self.invariant.numbers.one_each in
     let place : c.args.column < length c.self.inside.packed.items = rw one inside in
-    let numbers = c.self.invariant.numbers.numbers c.args.column (kind_read c.self.inside.schema c.args.column _ kind.Int inside k) in
-    let at = get_or-map (λ numbers. numbers.items) c.self.inside.packed.items c.args.column c.index-as_slice-column.result [] place in
+    let numbers = c.self.invariant.numbers.numbers c.args.column
+    (kind_read c.self.inside.schema c.args.column _ kind.Int inside k) in
+    let at = get_or-map (λ numbers. numbers.items) c.self.inside.packed.items c.args.column
+    c.index-as_slice-column.result [] place in
     rw (← c.self.view_is, c.as_slice-in-Int.ensures.value) (rw (at, ← read) at numbers)
 
 pub returns-in-Text-clause-found : goal.returns-in-Text-clause-found

@@ -14,5 +14,13 @@ vector = λ i h. first_alone i (tested i h)
 
 pub eval-requires : goal.eval-requires
 eval-requires g c =
-    let f : formula c.deref.result.now ≡ Plus (Constant 10) (Times (Constant 2) (Selectivity 0)) = rw (c.deref.ensures, c.in_ok-cost.ensures, c.in_ok-num-2.ensures, c.in_ok-growing.ensures, c.in_ok-num.ensures, c.in_ok-sel.ensures) in
+    let f : formula c.deref.result.now ≡ Plus (Constant 10) (Times (Constant 2) (Selectivity 0)) =
+    rw (
+      c.deref.ensures,
+      c.in_ok-cost.ensures,
+      c.in_ok-num-2.ensures,
+      c.in_ok-growing.ensures,
+      c.in_ok-num.ensures,
+      c.in_ok-sel.ensures,
+    ) in
     c.in_ok-p.ensures.vectors (100 ∷ []) (rw f vector)

@@ -15,23 +15,31 @@ ordered c =
     rw (c.from-column.ensures, c.as_slice-rows.ensures.value) (rw (← c.self.view_is) at c.requires.built.rows_are)
 
 low_cut : (c : goal.After-max)
-    → Cut (lies_below c.args.t.now c.from-column.result c.args.lo) c.as_slice-rows.result.now c.partition_point-first.result
+    → Cut (lies_below c.args.t.now c.from-column.result c.args.lo) c.as_slice-rows.result.now
+    c.partition_point-first.result
 low_cut c =
-    let fits : FitsColumn c.args.t.now c.from-column.result c.args.lo = rw c.from-column.ensures (rw (← c.self.view_is) at c.requires.low) in
+    let fits : FitsColumn c.args.t.now c.from-column.result c.args.lo =
+    rw c.from-column.ensures (rw (← c.self.view_is) at c.requires.low) in
     cut_from_point _ _ _ c.partition_point-first.ensures.bound
-    (IsPartitionPoint-from_clause (lies_below c.args.t.now c.from-column.result c.args.lo) c.as_slice-rows.result.now c.partition_point-first.result
+    (IsPartitionPoint-from_clause (lies_below c.args.t.now c.from-column.result c.args.lo) c.as_slice-rows.result.now
+    c.partition_point-first.result
     c.partition_point-first.ensures.partitioned
-    (below_first c.args.t.now c.numbers-numbers.ensures.sound c.from-column.result c.as_slice-rows.result.now (rise _ _ _ (ordered c)) c.args.lo fits)
+    (below_first c.args.t.now c.numbers-numbers.ensures.sound c.from-column.result c.as_slice-rows.result.now
+    (rise _ _ _ (ordered c)) c.args.lo fits)
     (λ a r f k. (search rules, search rules)))
 
 high_cut : (c : goal.After-max)
-    → Cut (lies_up_to c.args.t.now c.from-column.result c.args.hi) c.as_slice-rows.result.now c.partition_point-end.result
+    → Cut (lies_up_to c.args.t.now c.from-column.result c.args.hi) c.as_slice-rows.result.now
+    c.partition_point-end.result
 high_cut c =
-    let fits : FitsColumn c.args.t.now c.from-column.result c.args.hi = rw c.from-column.ensures (rw (← c.self.view_is) at c.requires.high) in
+    let fits : FitsColumn c.args.t.now c.from-column.result c.args.hi =
+    rw c.from-column.ensures (rw (← c.self.view_is) at c.requires.high) in
     cut_from_point _ _ _ c.partition_point-end.ensures.bound
-    (IsPartitionPoint-from_clause (lies_up_to c.args.t.now c.from-column.result c.args.hi) c.as_slice-rows.result.now c.partition_point-end.result
+    (IsPartitionPoint-from_clause (lies_up_to c.args.t.now c.from-column.result c.args.hi) c.as_slice-rows.result.now
+    c.partition_point-end.result
     c.partition_point-end.ensures.partitioned
-    (up_to_first c.args.t.now c.numbers-numbers.ensures.sound c.from-column.result c.as_slice-rows.result.now (rise _ _ _ (ordered c)) c.args.hi fits)
+    (up_to_first c.args.t.now c.numbers-numbers.ensures.sound c.from-column.result c.as_slice-rows.result.now
+    (rise _ _ _ (ordered c)) c.args.hi fits)
     (λ a r f k. (search rules, search rules)))
 
 pub returns-clause-low : goal.returns-clause-low
@@ -45,5 +53,6 @@ returns-clause-high c =
 
 pub returns-clause-rows : goal.returns-clause-rows
 returns-clause-rows c =
-    let between = between_cuts (λ row. meets_low c.args.lo (cell_at c.args.t.now row c.from-column.result)) (λ row. meets_high c.args.hi (cell_at c.args.t.now row c.from-column.result)) _ _ _ (low_cut c) (high_cut c) in
+    let between = between_cuts (λ row. meets_low c.args.lo (cell_at c.args.t.now row c.from-column.result))
+    (λ row. meets_high c.args.hi (cell_at c.args.t.now row c.from-column.result)) _ _ _ (low_cut c) (high_cut c) in
     rw (← c.self.view_is, c.max.ensures) (rw (c.from-column.ensures, c.as_slice-rows.ensures.value) at between)
