@@ -15,7 +15,8 @@ Gives files name limit fetched.Failed into = Unit {0}
 Gives files name limit fetched.Memory into = (bytes : List ℕ) × (files name ≡ Some bytes)
 
 -- a fetch: the bytes of a file that is there, and each other answer with its cause
-pub record Fetches (files : Option Files) (name : List ℕ) (limit : ℕ) (old_faults new_faults old_misses new_misses : ℕ) (result : Fetched) (into : List ℕ) : Type 0 where
+pub record Fetches (files : Option Files) (name : List ℕ) (limit : ℕ) (old_faults new_faults old_misses new_misses : ℕ)
+    (result : Fetched) (into : List ℕ) : Type 0 where
   pub gives : Told files (λ told. Gives told name limit result into)
   pub long : length into ≤ limit + 1
   pub empty : result ≢ fetched.Got → into ≡ []
@@ -50,7 +51,8 @@ Takes old put.Memory bytes new = new ≡ old
 
 -- a put as far as what was taken is told; it is told then as before
 abbrev pub TakesTold : Option (List ℕ) → Option (List ℕ) → Put → List ℕ → Type 0
-TakesTold old_taken new_taken result bytes = Told old_taken (λ old. (new : List ℕ) × (new_taken ≡ Some new) × Takes old result bytes new)
+TakesTold old_taken new_taken result bytes =
+    Told old_taken (λ old. (new : List ℕ) × (new_taken ≡ Some new) × Takes old result bytes new)
 
 -- the count of faults after a put that answered this
 abbrev pub faults_after_put : ℕ → Put → ℕ
@@ -59,7 +61,8 @@ faults_after_put faults put.Failed = one_more faults
 faults_after_put faults put.Memory = faults
 
 -- a put: the bytes behind those before, and a failure with its cause
-pub record Puts (old_taken new_taken : Option (List ℕ)) (old_faults new_faults : ℕ) (result : Put) (bytes : List ℕ) : Type 0 where
+pub record Puts (old_taken new_taken : Option (List ℕ)) (old_faults new_faults : ℕ) (result : Put)
+    (bytes : List ℕ) : Type 0 where
   pub takes : TakesTold old_taken new_taken result bytes
   pub faults : old_faults ≤ new_faults
   pub failed : result ≡ put.Failed → Rose old_faults new_faults

@@ -1,4 +1,4 @@
--- Shelves and sinks in memory, as plain values: which bytes stand under a name, which calls fail, and what a call leaves.
+-- Shelves and sinks in memory as plain values: the bytes under a name, the calls that fail, and what a call leaves.
 use Rattle.std.specs.Prelude.{ℕ, ◌≡◌, ◌≢◌, ◌==◌, Bool, if◌then◌else◌, List, [], ◌∷◌, ◌++◌, take, Option, Some, None}
 use Rattle.std.specs.List.{find, list_any}
 use Rattle.std.specs.Option.{option_map}
@@ -52,7 +52,11 @@ fails_at failing call = list_any (λ failing_call. failing_call == call) failing
 
 -- a shelf after a fetch that answered this
 abbrev pub after_fetch : ShelfInMemory → Fetched → ShelfInMemory
-after_fetch shelf result = record shelf { calls = one_more shelf.calls; faults = faults_after shelf.faults result; misses = misses_after shelf.misses result }
+after_fetch shelf result = record shelf {
+  calls = one_more shelf.calls;
+  faults = faults_after shelf.faults result;
+  misses = misses_after shelf.misses result;
+}
 
 -- how many bytes this put takes before it fails, where it is to fail: what was set last counts
 abbrev pub takes_at : List FailingPut → ℕ → Option ℕ

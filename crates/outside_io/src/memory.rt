@@ -3,12 +3,14 @@
 //! A name has one file at the most: `give` is the one place that adds one. Growth comes first, so a call that lacks
 //! memory leaves its object as it was. `SureShelf` and `SureSink` are the same without a call that fails.
 
-ghost use Rattle.std.specs.Prelude.{◌≡◌, ◌≢◌, ◌+◌, ◌<◌, ◌≤◌, ◌↔◌, [], ◌∷◌, ◌++◌, length, Some, OnOk, OnErr, IsTrue, take};
+ghost use Rattle.std.specs.Prelude.{◌≡◌, ◌≢◌, ◌+◌, ◌<◌, ◌≤◌, ◌↔◌, []};
+ghost use Rattle.std.specs.Prelude.{◌∷◌, ◌++◌, length, Some, OnOk, OnErr, IsTrue, take};
 ghost use Rattle.std.specs.List.{position};
 ghost use Rattle.std.specs.Option.{option_map};
 ghost use Rattle.outside_model.specs.Files.{up_to};
 ghost use Rattle.outside_io.specs.Calls.{Gives, Fetches, Puts, misses_after};
-ghost use Rattle.outside_io.specs.Memory.{has_name, bytes_at, KeepsOthers, takes_at, fails_at, after_fetch, PutsInMemory};
+ghost use Rattle.outside_io.specs.Memory.{has_name, bytes_at, KeepsOthers};
+ghost use Rattle.outside_io.specs.Memory.{takes_at, fails_at, after_fetch, PutsInMemory};
 
 use crate::{Fetched, Put, Shelf, Sink};
 use row_values::OutOfMemory;

@@ -3,8 +3,10 @@ use Rattle.std.specs.Io.KnownBytes.{Appends}
 use Rattle.outside_io.proofs.host.write_whole.Given as goal
 
 abbrev pub invariant-loop-at : goal.invariant-loop-at
-invariant-loop-at g l =
-    record { within : l.at ≤ length l.bytes; so_far : Appends (g.W.Write.contents l.fn.out) (g.W.Write.contents l.out) (take l.at l.bytes) }
+invariant-loop-at g l = record {
+  within : l.at ≤ length l.bytes;
+  so_far : Appends (g.W.Write.contents l.fn.out) (g.W.Write.contents l.out) (take l.at l.bytes);
+}
 
 abbrev pub decreases-loop-at : goal.decreases-loop-at
 decreases-loop-at g l = length l.bytes - l.at
