@@ -1,11 +1,11 @@
 -- The canonical text of a command is read as that command.
-use Rattle.std.proofs.Common.{ℕ, zero, suc, ◌≡◌, ◌<◌, ◌≤◌, ◌+◌, ◌-◌, ◌^◌, ◌==◌, ◌&&◌, nat_le, nat_lt, not, ℤ, pos, List}
-use Rattle.std.proofs.Common.{[], ◌∷◌, ◌++◌, codes, length, get_or, reverse, Bool, true, false, Option, Some, None}
+use Rattle.std.proofs.Common.{ℕ, zero, suc, ◌≡◌, ◌<◌, ◌^◌, ◌==◌, ◌&&◌, nat_le, nat_lt, not, pos, List}
+use Rattle.std.proofs.Common.{[], ◌∷◌, ◌++◌, codes, length, get_or, reverse, true, false, Some}
 use Rattle.std.proofs.Common.{refl, sym, ap, ◌∙◌, subst, arith, rules, lit<}
 use Rattle.std.proofs.lemmas.Bool.{and_parts, ne_eqb, not-true}
 use Rattle.std.proofs.lemmas.Bool.Decides.{nat_tests}
 use Rattle.std.proofs.lemmas.Fmt.{decimal_nonempty, digits_decimal, digits_value-decimal, first_decimal}
-use Rattle.std.proofs.lemmas.List.{append-nil, append_assoc, reverse-append, reverse-reverse}
+use Rattle.std.proofs.lemmas.List.{append-nil, reverse-append, reverse-reverse}
 use Rattle.std.proofs.lemmas.Str.Parse.{IsNumeralModel, numerals_by_fold}
 use Rattle.std.specs.Fmt.{decimal}
 use Rattle.std.specs.Str.{all_ascii_digits}
@@ -14,12 +14,11 @@ use Rattle.row_values.specs.Numbers.{read_on, are_digits, whole_number_of}
 use Rattle.row_values.specs.declared.values.Value.{Value}
 use Rattle.sql_parser.specs.Canonical.{operand_text, canonical_text}
 use Rattle.sql_parser.specs.Reading.{◌>>=◌}
-use Rattle.sql_parser.specs.Spelled.{statement_of}
 use Rattle.sql_parser.specs.Statement.{Parts, IsSound, each, is_name}
-use Rattle.sql_parser.specs.Tokens.{is_white, begins_with, IsFirst}
+use Rattle.sql_parser.specs.Tokens.{is_white, begins_with}
 use Rattle.sql_parser.specs.declared.statement.RawOperand.TheVariants.{Literal}
 use Rattle.sql_parser.specs.declared.tokens.Token.TheVariants as token
-use Rattle.sql_parser.proofs.CanonicalEnds.{Ends, ends_behind, name_ends, decimal_ends, operand_ends, canonical_begins}
+use Rattle.sql_parser.proofs.CanonicalEnds.{Ends, name_ends, decimal_ends, operand_ends, canonical_begins}
 use Rattle.sql_parser.proofs.CanonicalEnds.{canonical_ends}
 use Rattle.sql_parser.proofs.CanonicalIsRead.{stops, name_at_front, literal_at_front, canonical_read}
 use Rattle.sql_parser.proofs.TokensOnce.{begins_black as first_is_black}
