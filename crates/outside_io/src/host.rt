@@ -1,7 +1,9 @@
 //! The shelf and the sink of the system: std's files, and a writer such as standard output.
 //!
-//! What the system gives and takes no clause can know. So each fault is an `Err` of std, and is counted; a file that
-//! isn't found is no fault but a miss. The loops are proved over every reader and writer that tells its bytes.
+//! What the system gives and takes no clause can know. So each fault is an `Err` of std, and is
+//! counted; a file that
+//! isn't found is no fault but a miss. The loops are proved over every reader and writer that tells
+//! its bytes.
 
 ghost use Rattle.std.specs.Prelude.{◌≡◌, ◌≢◌, ◌+◌, ◌≤◌, ◌<◌, ◌↔◌, [], length, None};
 ghost use Rattle.std.specs.IoError.{error_kind};
@@ -155,7 +157,8 @@ impl<W: Write> OutSink<W> {
     }
 }
 
-/// Writes all bytes and flushes. A write that takes no byte is a fault: waiting for a better one might not end.
+/// Writes all bytes and flushes. A write that takes no byte is a fault: waiting for a better one
+/// might not end.
 fn write_whole<W: Write>(out: &mut W, bytes: &[u8]) -> Put
     ensures takes { TakesTold (W.contents out.old) (W.contents out.new) result bytes.now }
     ensures ends { result ≢ Put.Memory }

@@ -1,9 +1,13 @@
 //! The outside: a shelf that gives files by name, and a sink that takes bytes.
 //!
-//! A shelf means its files, where it tells them, and two counts: of faults, and of misses. A sink means what it has
-//! taken, where it tells it, and a count of faults. No count falls, and a count that stands at 2^64 - 1 stays there.
-//! A call answers that it failed, or that a file is missing, only where a count of these rose in that very call: so
-//! no body gives up by itself. The traits are the one way out; `memory` has bodies whose answers are known in
+//! A shelf means its files, where it tells them, and two counts: of faults, and of misses. A sink
+//! means what it has
+//! taken, where it tells it, and a count of faults. No count falls, and a count that stands at 2^64
+//! - 1 stays there.
+//! A call answers that it failed, or that a file is missing, only where a count of these rose in
+//! that very call: so
+//! no body gives up by itself. The traits are the one way out; `memory` has bodies whose answers
+//! are known in
 //! advance, `host` those of the system, which tell no content.
 #![tactic(auto)]
 
@@ -52,7 +56,8 @@ pub trait Shelf {
 
     ghost misses: { Self → ℕ };
 
-    /// Puts into `into` the first `limit + 1` bytes of the file of this name, or all where there are fewer. After
+    /// Puts into `into` the first `limit + 1` bytes of the file of this name, or all where there
+    /// are fewer. After
     /// any answer but `Got` it is empty.
     fn fetch(&mut self, alloc: Global, name: &str, limit: usize, into: &mut Vec<u8>) -> Fetched
         requires { limit < usize.MAX }

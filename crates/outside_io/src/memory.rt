@@ -1,7 +1,9 @@
 //! Shelves and sinks in memory: their files, and the calls that fail, are set in advance.
 //!
-//! A name has one file at the most: `give` is the one place that adds one. Growth comes first, so a call that lacks
-//! memory leaves its object as it was. `SureShelf` and `SureSink` are the same without a call that fails.
+//! A name has one file at the most: `give` is the one place that adds one. Growth comes first, so a
+//! call that lacks
+//! memory leaves its object as it was. `SureShelf` and `SureSink` are the same without a call that
+//! fails.
 
 ghost use Rattle.std.specs.Prelude.{◌≡◌, ◌≢◌, ◌+◌, ◌<◌, ◌≤◌, ◌↔◌, []};
 ghost use Rattle.std.specs.Prelude.{◌∷◌, ◌++◌, length, Some, OnOk, OnErr, IsTrue, take};
@@ -55,7 +57,8 @@ fn position_of(files: &[File], name: &str) -> Option<usize>
     files.iter().position(|file| file.name.as_str() == name)
 }
 
-/// Gives the name these bytes, in place of those before; after want of memory the files are as before.
+/// Gives the name these bytes, in place of those before; after want of memory the files are as
+/// before.
 fn give(files: &mut Vec<File>, alloc: Global, name: &str, bytes: &[u8]) -> Result<(), OutOfMemory>
     ensures given { OnOk result (bytes_at files.new.items name.now ≡ Some bytes.now) }
     ensures others { KeepsOthers files.old.items files.new.items name.now }
@@ -83,7 +86,8 @@ fn first(bytes: &[u8], count: usize) -> &[u8]
     }
 }
 
-/// Appends the first `limit + 1` of these bytes, or all where there are fewer; where memory is short, none.
+/// Appends the first `limit + 1` of these bytes, or all where there are fewer; where memory is
+/// short, none.
 #[tactic(auto, unfolding(outside_model::specs::Files::up_to))]
 fn copy_up_to(bytes: &[u8], limit: usize, into: &mut Vec<u8>) -> Result<(), OutOfMemory>
     requires { limit < usize.MAX }
@@ -152,7 +156,8 @@ impl MemShelf {
         }
     }
 
-    /// Gives the name these bytes, in place of those before; after want of memory the shelf is as before.
+    /// Gives the name these bytes, in place of those before; after want of memory the shelf is as
+    /// before.
     pub fn put_file(&mut self, name: &str, bytes: &[u8]) -> Result<(), OutOfMemory>
         ensures given { OnOk result (bytes_at self.new.files name.now ≡ Some bytes.now) }
         ensures others { KeepsOthers self.old.files self.new.files name.now }
@@ -239,7 +244,8 @@ impl SureShelf {
         }
     }
 
-    /// Gives the name these bytes, in place of those before; after want of memory the shelf is as before.
+    /// Gives the name these bytes, in place of those before; after want of memory the shelf is as
+    /// before.
     pub fn put_file(&mut self, name: &str, bytes: &[u8]) -> Result<(), OutOfMemory>
         ensures given { OnOk result (bytes_at self.new.files name.now ≡ Some bytes.now) }
         ensures others { KeepsOthers self.old.files self.new.files name.now }
@@ -329,7 +335,8 @@ impl MemSink {
         }
     }
 
-    /// Lets that put fail after the first `takes` bytes of its piece, or after all where there are fewer. What is
+    /// Lets that put fail after the first `takes` bytes of its piece, or after all where there are
+    /// fewer. What is
     /// said last of a put counts. After want of memory the sink is as before.
     pub fn fail_at(&mut self, call: u64, takes: usize) -> Result<(), OutOfMemory>
         ensures ok { OnOk result (self.new ≡ record self.old {

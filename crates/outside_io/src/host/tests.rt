@@ -1,4 +1,5 @@
-//! What no clause says of the system: which names are missing and which are faults, and that writers are heard.
+//! What no clause says of the system: which names are missing and which are faults, and that
+//! writers are heard.
 
 use super::{FileShelf, OutSink};
 use crate::{Fetched, Put, Shelf, Sink};
