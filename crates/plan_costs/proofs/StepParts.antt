@@ -1,5 +1,5 @@
 -- What sound numbers say of the parts of a step: they are there, and none is past 124 bits.
-use Rattle.std.proofs.Common.{ℕ, ◌≡◌, ◌<◌, ◌+◌, ◌*◌, ◌^◌, ◌==◌, ◌&&◌, Bool, true, false, IsTrue, List, [], length, take, slice_get, slice_index_or, Option, Some, None, IsSome, IsSomeAnd, option_and_then, if◌then◌else◌, ap, sym, ◌∙◌, refl, subst, arith, true≢false, lt_of_lt_of_le}
+use Rattle.std.proofs.Common.{ℕ, ◌≡◌, ◌<◌, ◌+◌, ◌*◌, ◌^◌, ◌==◌, ◌&&◌, Bool, true, false, IsTrue, List, [], length, take, slice_get, slice_index, slice_index_or, Option, Some, None, IsSome, IsSomeAnd, option_and_then, if◌then◌else◌, ap, sym, ◌∙◌, refl, subst, arith, true≢false, lt_of_lt_of_le}
 use Rattle.std.specs.Option.{option_map, option_map_or}
 use Rattle.std.proofs.Math.Nat.{pow-le-pow_right}
 use Rattle.std.proofs.lemmas.Bool.Decides.{nat_tests}
@@ -10,18 +10,21 @@ use Rattle.row_values.specs.declared.statement.Edge.{Edge}
 use Rattle.row_values.specs.declared.statement.Place.{Place}
 use Rattle.row_values.specs.declared.statement.Pred.{Pred}
 use Rattle.plan_trees.specs.declared.plans.Access.{Access}
+use Rattle.plan_trees.specs.declared.plans.StepKind.{StepKind}
 use Rattle.plan_trees.specs.declared.plans.StepKind.TheVariants.{Loop, Probe}
 use Rattle.plan_trees.specs.Indexes.{has_index}
 use Rattle.plan_trees.specs.PlaceSets.{has, one}
 use Rattle.plan_trees.specs.PlanSpace.{IsValidPlan, IsValidStep, column_in, column_of, joins_to}
 use Rattle.plan_trees.specs.Statistics.{Statistics, IsSoundStats, IsSoundVector}
-use Rattle.plan_trees.specs.Trees.{Tree, place_of, places_of}
-use Rattle.cost_model.specs.Cardinalities.{card_of}
-use Rattle.cost_model.specs.Costs.{access_unit, edge_fan, look_up_cost}
-use Rattle.cost_model.proofs.CostBounds.{join_below_limit, step_below_limit}
+use Rattle.plan_trees.specs.Trees.{Tree, place_entering, places_of}
+use Rattle.cost_model.specs.Cardinalities.{card_of, product_over}
+use Rattle.cost_model.specs.Costs.{digits, join_cost, step_cost}
+use Rattle.cost_model.proofs.CostBounds.{card_below_limit, join_below_limit, sort_below_limit, step_below_limit}
 use Rattle.cost_model.proofs.Growth.{selectivity_of}
 use Rattle.cost_model.proofs.Sets.{set_of_plan}
 use Rattle.cost_model.proofs.SoundNumbers.{are_sized}
+use Rattle.plan_costs.specs.Cards.{AreCards}
+use Rattle.plan_costs.specs.Units.{unit_of_step}
 
 -- The column of a fan.
 
@@ -68,19 +71,52 @@ fan_column q s set place edge h k valid e there =
     let joined = subst (λ o. IsSomeAnd o (λ e. IsTrue (joins_to set place e) × IsTrue (has_index s.indexed place (column_in place e)))) there valid.2 in
     fan_there q s place (column_in place e) k (end_there_by (e.right.place == place) q set place e sound joined.0 refl)
 
--- The forms of steps, and hash joins.
+-- Steps, hash joins and sorts by their parts.
 
-pub loop_fits : (q : Statement) (s : Statistics) (vector : List ℕ) (set card unit place out : ℕ) (access : Access) → IsSoundQuery q → IsSoundStats q s → IsSoundVector q s vector → IsValidStep q s.indexed set (Loop access)
-    → card ≡ card_of q s vector set → unit ≡ access_unit q s vector access → place ≡ place_of access → out ≡ s.weights.out * card_of q s vector (set + one place) → card * unit + out < 2 ^ 124
-loop_fits q s vector set card unit place out access h k v valid a b c d = rw (a, b, d, c) (step_below_limit q s vector set (Loop access) (are_sized q s vector h k v) valid)
+pub step_by_parts : (q : Statement) (s : Statistics) (vector : List ℕ) (set : ℕ) (step : StepKind) (unit before after : ℕ)
+    → unit ≡ unit_of_step q s vector step → before ≡ card_of q s vector set → after ≡ card_of q s vector (set + one (place_entering step))
+    → before * unit + s.weights.out * after ≡ step_cost q s vector set step
+step_by_parts q s vector set (Loop access) unit before after a b c = rw (a, b, c) refl
+step_by_parts q s vector set (Probe place edge) unit before after a b c = rw (a, b, c) refl
 
-pub probe_fits : (q : Statement) (s : Statistics) (vector : List ℕ) (set card place edge look_up found out : ℕ) → IsSoundQuery q → IsSoundStats q s → IsSoundVector q s vector → IsValidStep q s.indexed set (Probe place edge)
-    → card ≡ card_of q s vector set → look_up ≡ look_up_cost s place found → found ≡ edge_fan q s place edge → out ≡ s.weights.out * card_of q s vector (set + one place) → card * look_up + out < 2 ^ 124
-probe_fits q s vector set card place edge look_up found out h k v valid a b c d = rw (a, b, d, c) (step_below_limit q s vector set (Probe place edge) (are_sized q s vector h k v) valid)
+pub step_parts_fit : (q : Statement) (s : Statistics) (vector : List ℕ) (set : ℕ) (step : StepKind) (unit before after : ℕ)
+    → IsSoundQuery q → IsSoundStats q s → IsSoundVector q s vector → IsValidStep q s.indexed set step
+    → unit ≡ unit_of_step q s vector step → before ≡ card_of q s vector set → after ≡ card_of q s vector (set + one (place_entering step))
+    → before * unit + s.weights.out * after < 2 ^ 128
+step_parts_fit q s vector set step unit before after h k v valid a b c =
+    let few = step_below_limit q s vector set step (are_sized q s vector h k v) valid in
+    let e = step_by_parts q s vector set step unit before after a b c in
+    omega arith
 
-pub join_fits : (q : Statement) (s : Statistics) (vector : List ℕ) (left right first second weight out : ℕ) → IsSoundQuery q → IsSoundStats q s → IsSoundVector q s vector
-    → first ≡ card_of q s vector left → second ≡ card_of q s vector right → weight ≡ s.weights.hash → out ≡ s.weights.out * card_of q s vector (left + right) → weight * (first + second) + out < 2 ^ 124
-join_fits q s vector left right first second weight out h k v a b c d = rw (a, b, c, d) (join_below_limit q s vector left right (are_sized q s vector h k v))
+pub join_by_parts : (q : Statement) (s : Statistics) (vector : List ℕ) (left right first second after : ℕ)
+    → first ≡ card_of q s vector left → second ≡ card_of q s vector right → after ≡ card_of q s vector (left + right)
+    → s.weights.hash * (first + second) + s.weights.out * after ≡ join_cost q s vector left right
+join_by_parts q s vector left right first second after a b c = rw (a, b, c) refl
+
+pub join_parts_fit : (q : Statement) (s : Statistics) (vector : List ℕ) (left right first second after : ℕ)
+    → IsSoundQuery q → IsSoundStats q s → IsSoundVector q s vector
+    → first ≡ card_of q s vector left → second ≡ card_of q s vector right → after ≡ card_of q s vector (left + right)
+    → s.weights.hash * (first + second) + s.weights.out * after < 2 ^ 128
+join_parts_fit q s vector left right first second after h k v a b c =
+    let few = join_below_limit q s vector left right (are_sized q s vector h k v) in
+    let e = join_by_parts q s vector left right first second after a b c in
+    omega arith
+
+pub sides_fit : (q : Statement) (s : Statistics) (vector : List ℕ) (left right first second : ℕ)
+    → IsSoundQuery q → IsSoundStats q s → IsSoundVector q s vector
+    → first ≡ card_of q s vector left → second ≡ card_of q s vector right → first + second < 2 ^ 128
+sides_fit q s vector left right first second h k v a b =
+    let few = card_below_limit q s vector left (are_sized q s vector h k v) in
+    let less = card_below_limit q s vector right (are_sized q s vector h k v) in
+    omega arith
+
+pub sort_parts_fit : (q : Statement) (s : Statistics) (vector : List ℕ) (set card : ℕ)
+    → IsSoundQuery q → IsSoundStats q s → IsSoundVector q s vector
+    → card ≡ card_of q s vector set → s.weights.sort * digits (product_over set 0 s.rows) * card < 2 ^ 128
+sort_parts_fit q s vector set card h k v a =
+    let few = sort_below_limit q s vector set (are_sized q s vector h k v) in
+    let same : s.weights.sort * digits (product_over set 0 s.rows) * card < 2 ^ 124 = rw a few in
+    omega arith
 
 -- The place that enters.
 
@@ -99,3 +135,12 @@ count_before_by preds j (Some pred) e h = (selectivity_of preds j pred.at (ap (o
 -- before a parameterised predicate there are fewer of them than in all
 pub count_before : (preds : List Pred) (j : ℕ) → option_map_or is_parameterised (slice_get preds j) false ≡ true → selectivity_count (take j preds) < selectivity_count preds
 count_before preds j h = count_before_by preds j (slice_get preds j) refl h
+
+-- Cardinalities that are read off.
+
+pub card_there : (q : Statement) (s : Statistics) (vector cards : List ℕ) (set : ℕ) → AreCards q s vector cards → set < 2 ^ length q.places → set < length cards
+card_there q s vector cards set h less = let all = h.one_each in omega arith
+
+pub card_read : (q : Statement) (s : Statistics) (vector cards : List ℕ) (set read card : ℕ) → AreCards q s vector cards → set < 2 ^ length q.places
+    → read ≡ set → card ≡ slice_index cards read → card ≡ card_of q s vector set
+card_read q s vector cards set read card h less e f = f ∙ ap (λ k. slice_index cards k) e ∙ h.value set less

@@ -1,3 +1,5 @@
 pub mod BestPlans
+pub mod Cards
 pub mod Formulas
 pub mod LowerBounds
+pub mod Units

@@ -2,15 +2,17 @@
 //!
 //! The divisor of a cardinality can pass 128 bits, so its factors divide one after the other, each rounding up: that
 //! is as if their product divided at once.
-ghost use Rattle.std.specs.Prelude.{ℕ, ◌≡◌, ◌==◌, ◌&&◌, if◌then◌else◌, not, ◌<◌, ◌≤◌, ◌^◌, All, length, map, slice_index};
+ghost use Rattle.std.specs.Prelude.{ℕ, ◌≡◌, ◌==◌, ◌&&◌, if◌then◌else◌, not, ◌<◌, ◌≤◌, ◌^◌, All, IfOk, length, map, slice_index};
 ghost use Rattle.std.specs.Int.{div_ceil};
 ghost use Rattle.row_values.specs.Statements.{is_parameterised, selectivity_count};
 ghost use Rattle.plan_trees.specs.PlaceSets.{has};
 ghost use Rattle.plan_trees.specs.Statistics.{IsSoundStats, IsSoundVector, selectivity_places};
+ghost use Rattle.plan_costs.specs.Cards.{AreCards};
 ghost use Rattle.cost_model.specs.Cardinalities.{card_of, is_inside, kappa, marked_product, product_over};
 
-use plan_trees::{COST_SCALE, Stats, has_place};
-use row_values::{Edge, Pred, Query, is_parameterised};
+use plan_trees::{COST_SCALE, Stats, all_places, has_place};
+use row_values::{Edge, OutOfMemory, Pred, Query, is_parameterised};
+use std::alloc::Global;
 
 /// The rows that meet the fixed predicates on the place, if it is in the set; else 1.
 fn fixed_factor(stats: &Stats, set: u8, place: u8) -> u64
@@ -51,6 +53,17 @@ fn rows_factor(stats: &Stats, set: u8, pred: &Pred) -> u64
     }
 }
 
+/// The number divided by the factor, rounded up. Most factors are 1, and to divide takes long.
+fn divided(number: u128, factor: u64) -> u128
+    requires { 1 ≤ factor }
+    ensures { result ≡ div_ceil number factor }
+{
+    if factor == 1 {
+        return number;
+    }
+    number.div_ceil(u128::from(factor))
+}
+
 /// The number divided by the rows of each parameterised predicate's place in the set, rounded up.
 fn by_selected_rows(number: u128, preds: &[Pred], stats: &Stats, set: u8) -> u128
     requires there { All (λ pred. pred.at.place < length stats.now.rows) preds.now }
@@ -61,7 +74,7 @@ fn by_selected_rows(number: u128, preds: &[Pred], stats: &Stats, set: u8) -> u12
     let mut left = number;
     for pred in preds {
         let factor = rows_factor(stats, set, pred);
-        left = left.div_ceil(u128::from(factor));
+        left = divided(left, factor);
     }
     left
 }
@@ -88,7 +101,7 @@ fn by_distinct(number: u128, edges: &[Edge], stats: &Stats, set: u8) -> u128
     let mut left = number;
     for (i, edge) in edges.iter().enumerate() {
         let factor = distinct_factor(stats, set, i as u8, edge);
-        left = left.div_ceil(u128::from(factor));
+        left = divided(left, factor);
     }
     left
 }
@@ -138,4 +151,31 @@ pub fn card(q: &Query, stats: &Stats, set: u8, s: &[u64]) -> u128
 {
     let selected = selected_product(q.preds(), set, s);
     constant_part(q, stats, set) * u128::from(selected)
+}
+
+/// The cardinalities of all sets of places, in the order of their numbers from that of no place on.
+pub fn all_cards(
+    alloc: Global,
+    q: &Query,
+    stats: &Stats,
+    s: &[u64],
+) -> Result<Vec<u128>, OutOfMemory>
+    requires sound { IsSoundStats q.now stats.now }
+    requires vector { IsSoundVector q.now stats.now s.now }
+    ensures value { IfOk result (λ list. AreCards q.now stats.now s.now list.items) }
+{
+    let end = all_places(q.places().len()) + 1;
+    let mut list = Vec::new(alloc);
+    for set in 0..end {
+        list.push(card(q, stats, set, s))?;
+    }
+    Ok(list)
+}
+
+/// The cardinality of the set, read off those of all sets.
+pub(crate) fn card_at(cards: &[u128], set: u8) -> u128
+    requires { set < length cards.now }
+    ensures { result ≡ slice_index cards.now set }
+{
+    cards[usize::from(set)]
 }

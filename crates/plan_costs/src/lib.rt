@@ -15,13 +15,13 @@ mod sorts;
 mod steps;
 
 pub use accesses::access_unit;
-pub use cardinalities::card;
+pub use cardinalities::{all_cards, card};
 pub use formulas::expr_of;
 pub use planner::{Best, Planner};
 pub use polynomials::poly_of;
 pub use potentials::{Cell, Potentials};
-pub use sorts::sort_cost;
-pub use steps::{join_cost, step_cost};
+pub use sorts::{sort_cost, sort_cost_with};
+pub use steps::{join_cost, join_cost_with, step_cost, step_cost_with};
 
 #[cfg(test)]
 mod tests;

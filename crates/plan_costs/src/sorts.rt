@@ -7,9 +7,10 @@ ghost use Rattle.plan_trees.specs.PlaceSets.{has};
 ghost use Rattle.plan_trees.specs.Statistics.{IsSoundStats, IsSoundVector};
 ghost use Rattle.cost_model.specs.Cardinalities.{product_over};
 ghost use Rattle.cost_model.specs.Costs as costs;
+ghost use Rattle.plan_costs.specs.Cards.{AreCards};
 
 use crate::accesses::digits;
-use crate::cardinalities::card;
+use crate::cardinalities::{card, card_at};
 use plan_trees::{Stats, has_place};
 use row_values::Query;
 
@@ -48,6 +49,17 @@ pub(crate) fn comparisons(q: &Query, stats: &Stats, set: u8) -> u128
     u128::from(stats.weights().sort) * u128::from(digits(tables))
 }
 
+/// What it costs to sort so many rows of the set.
+pub(crate) fn sort_cost_of(q: &Query, stats: &Stats, set: u8, card: u128) -> u128
+    requires sound { IsSoundStats q.now stats.now }
+    requires fits { stats.now.weights.sort * costs.digits (product_over set 0 stats.now.rows) * card
+        < 2 ^ 128 }
+    ensures value { result
+        ≡ stats.now.weights.sort * costs.digits (product_over set 0 stats.now.rows) * card }
+{
+    comparisons(q, stats, set) * card
+}
+
 /// What it costs to sort the rows of the set, on the cost scale.
 pub fn sort_cost(q: &Query, stats: &Stats, set: u8, s: &[u64]) -> u128
     requires sound { IsSoundStats q.now stats.now }
@@ -57,5 +69,18 @@ pub fn sort_cost(q: &Query, stats: &Stats, set: u8, s: &[u64]) -> u128
 {
     // That every statement is sound, its readers pass on: so it is read here once.
     let _ = q.places();
-    comparisons(q, stats, set) * card(q, stats, set, s)
+    sort_cost_of(q, stats, set, card(q, stats, set, s))
+}
+
+/// What it costs to sort the rows of the set, read off the cardinalities of all sets.
+pub fn sort_cost_with(q: &Query, stats: &Stats, cards: &[u128], set: u8, s: &[u64]) -> u128
+    requires sound { IsSoundStats q.now stats.now }
+    requires vector { IsSoundVector q.now stats.now s.now }
+    requires cards { AreCards q.now stats.now s.now cards.now }
+    requires there { set < 2 ^ length q.now.places }
+    ensures value { result ≡ costs.sort_cost q.now stats.now s.now set }
+{
+    // That every statement is sound, its readers pass on: so it is read here once.
+    let _ = q.places();
+    sort_cost_of(q, stats, set, card_at(cards, set))
 }

@@ -1,129 +1,35 @@
-//! Costs over small tables, worked out by hand, with the weights that the program has by default.
-//!
-//! One statement is `SELECT v FROM t WHERE v < ?` over a thousand rows with an index on v. The other joins
-//! three tables of 8, 1024 and 1024 rows: `SELECT a.x FROM a, b, c WHERE a.x = b.x AND a.y = c.y AND b.z = c.z`,
-//! where c.y has 512 values, and b.z and c.y have an index.
-ghost use Rattle.std.specs.Prelude.{ℕ, List, All, ◌≡◌, ◌≤◌, [], ◌∷◌, IfOk, IfSome, length};
-ghost use Rattle.plan_trees.specs.Statistics.{IsSoundStats, IsSoundVector};
+//! Costs over the worked statements, worked out by hand, with the weights that the program has by default.
+ghost use Rattle.std.specs.Prelude.{ℕ, List, All, ◌≡◌, ◌≤◌, IfOk, IfSome};
 ghost use Rattle.cost_polynomials.specs.Polynomial.{IsVectorFor};
 ghost use Rattle.cost_model.specs.Laws.{IsVectorOf};
 
 use crate::{access_unit, card, join_cost, poly_of, sort_cost, step_cost};
 use cost_polynomials::Poly;
 use plan_trees::{
-    Access, COST_SCALE, Indexed, Plan, Stats, StepKind, Top, Weights, are_apart, is_valid_access,
-    is_valid_step, valid,
+    Access, COST_SCALE, Plan, StepKind, Top, all_places, are_apart, is_valid_access, is_valid_step,
+    valid,
 };
-use row_values::{
-    ColRef, Column, Edge, Item, Kind, Operand, OutOfMemory, Place, Pred, Query, Schema, Test,
-    Words, is_parameterised,
-};
+use row_values::OutOfMemory;
 use std::alloc::Global;
 use std::rc::Rc;
 use std::test::Fail;
-
-const USUAL: Weights = Weights {
-    row: 1,
-    fetch: 2,
-    probe: 1,
-    hash: 2,
-    sort: 1,
-    out: 1,
-};
-
-fn place(alloc: Global, name: &str, columns: [&str; 2]) -> Result<Option<Place>, OutOfMemory> {
-    let mut kept = Vec::new(alloc);
-    for column in columns {
-        kept.push(Column {
-            name: Words::of(alloc, column)?,
-            kind: Kind::Int,
-        })?;
-    }
-    let Some(schema) = Schema::of(kept) else {
-        return Ok(None);
-    };
-    Ok(Some(Place {
-        table: Words::of(alloc, name)?,
-        alias: Words::of(alloc, name)?,
-        schema,
-    }))
-}
-
-fn at(place: u8, column: u8) -> ColRef {
-    ColRef { place, column }
-}
-
-fn below(alloc: Global) -> Result<Option<Query>, OutOfMemory> {
-    let mut places = Vec::new(alloc);
-    if let Some(t) = place(alloc, "t", ["v", "w"])? {
-        places.push(t)?;
-    }
-    let mut preds = Vec::new(alloc);
-    preds.push(Pred {
-        at: at(0, 0),
-        test: Test::Lt(Operand::Param(0)),
-    })?;
-    let mut items = Vec::new(alloc);
-    items.push(Item::Column(at(0, 0)))?;
-    Ok(Query::make(
-        places,
-        preds,
-        Vec::new(alloc),
-        items,
-        Vec::new(alloc),
-        Vec::new(alloc),
-    ))
-}
-
-fn thousand_rows(alloc: Global, q: &Query) -> Result<Option<Stats>, OutOfMemory>
-    ensures sound { IfOk result (λ found. IfSome found (λ stats. IsSoundStats q.now stats)) }
-    ensures vector { IfOk result (λ found. IfSome found (λ stats.
-        (n : ℕ) → 1 ≤ n → n ≤ 1000 → IsSoundVector q.now stats (n ∷ []))) }
-{
-    let [t] = q.places() else {
-        return Ok(None);
-    };
-    let [pred] = q.preds() else {
-        return Ok(None);
-    };
-    let [] = q.edges() else {
-        return Ok(None);
-    };
-    if t.schema.columns().len() != 2 || pred.at.place != 0 || !is_parameterised(pred) {
-        return Ok(None);
-    }
-    let Some(indexed) = Indexed::of(&[1]) else {
-        return Ok(None);
-    };
-    let stats = Stats::of(
-        alloc,
-        q,
-        &[1000],
-        &[1000],
-        &[1],
-        &[],
-        &[1, 1],
-        indexed,
-        USUAL,
-    )?;
-    Ok(Some(stats))
-}
+use worked_statements::{Worked, reuse_by_selectivity, smallest_pair_first_is_not_least};
 
 /// The unit of an access where so many rows are below the argument.
-fn unit_at(q: &Query, stats: &Stats, access: Access, rows: u64) -> Option<u128>
-    requires sound { IsSoundStats q.now stats.now }
-    requires vector { (n : ℕ) → 1 ≤ n → n ≤ 1000 → IsSoundVector q.now stats.now (n ∷ []) }
-{
-    if rows == 0 || rows > 1000 || !is_valid_access(q, stats.indexed(), access) {
+fn unit_at(w: &Worked, access: Access, rows: u64) -> Option<u128> {
+    let vector = [rows];
+    if !w.takes(&vector) {
         return None;
     }
-    Some(access_unit(q, stats, &access, &[rows]))
+    if !is_valid_access(&w.query, w.stats.indexed(), access) {
+        return None;
+    }
+    Some(access_unit(&w.query, &w.stats, &access, &vector))
 }
 
 #[test]
 fn each_access_of_a_thousand_rows(rt: HostRuntime) -> Result<(), Fail> {
-    let q = below(rt.alloc())?.ok_or("not sound")?;
-    let stats = thousand_rows(rt.alloc(), &q)?.ok_or("other places")?;
+    let w = reuse_by_selectivity(rt.alloc())?.ok_or("not sound")?;
     let range = Access::Range(0, 0, 0);
     let cases = [
         ("all rows", Access::Seq(0), 500, Some(1000)),
@@ -134,47 +40,43 @@ fn each_access_of_a_thousand_rows(rt: HostRuntime) -> Result<(), Fail> {
         ("a column without an index", Access::Full(0, 1), 500, None),
     ];
     for (what, access, rows, want) in cases {
-        assert_eq!(rt; unit_at(&q, &stats, access, rows), want, "{what}");
+        assert_eq!(rt; unit_at(&w, access, rows), want, "{what}");
     }
     Ok(())
 }
 
 /// The polynomial of the plan under a top that gives its rows as they are, if it is valid.
-fn poly_if_valid(
-    alloc: Global,
-    q: &Query,
-    stats: &Stats,
-    plan: Plan,
-) -> Result<Option<Poly>, OutOfMemory>
-    requires { IsSoundStats q.now stats.now }
-    ensures { IfOk result (λ found. IfSome found (λ poly. (s : List ℕ) → IsVectorOf q.now s
+fn poly_if_valid(alloc: Global, w: &Worked, plan: Plan) -> Result<Option<Poly>, OutOfMemory>
+    ensures { IfOk result (λ found. IfSome found (λ poly. (s : List ℕ) → IsVectorOf w.now.query s
         → All (λ count. 1 ≤ count) s → IsVectorFor poly s)) }
 {
     let top = Top::Rows(Rc::new(alloc, plan)?);
-    if !valid(q, stats.indexed(), &top) {
+    if !valid(&w.query, w.stats.indexed(), &top) {
         return Ok(None);
     }
-    let poly = poly_of(alloc, q, stats, &top)?;
+    let poly = poly_of(alloc, &w.query, &w.stats, &top)?;
     Ok(Some(poly))
 }
 
 /// The value of the polynomial where so many rows are below the argument.
-fn value_with(q: &Query, stats: &Stats, poly: &Poly, rows: u64) -> Option<u128>
-    requires vector { (n : ℕ) → 1 ≤ n → n ≤ 1000 → IsSoundVector q.now stats.now (n ∷ []) }
-    requires serves { (s : List ℕ) → IsVectorOf q.now s → All (λ count. 1 ≤ count) s → IsVectorFor poly.now s }
+fn value_with(w: &Worked, poly: &Poly, rows: u64) -> Option<u128>
+    requires { (s : List ℕ) → IsVectorOf w.now.query s → All (λ count. 1 ≤ count) s → IsVectorFor poly.now s }
 {
-    if rows == 0 || rows > 1000 {
+    let vector = [rows];
+    if rows == 0 {
         return None;
     }
-    poly.eval(&[rows])
+    if !w.takes(&vector) {
+        return None;
+    }
+    poly.eval(&vector)
 }
 
 #[test]
 fn a_range_of_a_thousand_rows_as_a_polynomial(rt: HostRuntime) -> Result<(), Fail> {
-    let q = below(rt.alloc())?.ok_or("not sound")?;
-    let stats = thousand_rows(rt.alloc(), &q)?.ok_or("other places")?;
+    let w = reuse_by_selectivity(rt.alloc())?.ok_or("not sound")?;
     let range = Plan::Base(Access::Range(0, 0, 0));
-    let poly = poly_if_valid(rt.alloc(), &q, &stats, range)?.ok_or("not valid")?;
+    let poly = poly_if_valid(rt.alloc(), &w, range)?.ok_or("not valid")?;
     // A descent of 10 steps, and 2 for each row that is found.
     assert_eq!(rt;
         poly.terms(),
@@ -182,127 +84,83 @@ fn a_range_of_a_thousand_rows_as_a_polynomial(rt: HostRuntime) -> Result<(), Fai
         "10 + 2 s0"
     );
     assert_eq!(rt;
-        value_with(&q, &stats, &poly, 100),
+        value_with(&w, &poly, 100),
         Some(210 * COST_SCALE),
         "at s0 = 100"
     );
     Ok(())
 }
 
-fn three_places(alloc: Global) -> Result<Option<Query>, OutOfMemory> {
-    let mut places = Vec::new(alloc);
-    for (name, columns) in [("a", ["x", "y"]), ("b", ["x", "z"]), ("c", ["y", "z"])] {
-        if let Some(entry) = place(alloc, name, columns)? {
-            places.push(entry)?;
-        }
+/// The cardinality of a set of places, if they are the statement's.
+fn card_of(w: &Worked, set: u8) -> Option<u128> {
+    if set > all_places(w.query.places().len()) {
+        return None;
     }
-    let mut edges = Vec::new(alloc);
-    for (left, right) in [
-        (at(0, 0), at(1, 0)),
-        (at(0, 1), at(2, 0)),
-        (at(1, 1), at(2, 1)),
-    ] {
-        edges.push(Edge { left, right })?;
+    if !w.takes(&[]) {
+        return None;
     }
-    let mut items = Vec::new(alloc);
-    items.push(Item::Column(at(0, 0)))?;
-    Ok(Query::make(
-        places,
-        Vec::new(alloc),
-        edges,
-        items,
-        Vec::new(alloc),
-        Vec::new(alloc),
-    ))
+    Some(card(&w.query, &w.stats, set, &[]))
 }
 
-fn three_tables(alloc: Global, q: &Query) -> Result<Option<Stats>, OutOfMemory>
-    ensures places { IfOk result (λ found. IfSome found (λ stats. length q.now.places ≡ 3)) }
-    ensures sound { IfOk result (λ found. IfSome found (λ stats. IsSoundStats q.now stats)) }
-    ensures vector { IfOk result (λ found. IfSome found (λ stats. IsSoundVector q.now stats [])) }
-{
-    let [a, b, c] = q.places() else {
-        return Ok(None);
-    };
-    let [] = q.preds() else {
-        return Ok(None);
-    };
-    let [_, _, _] = q.edges() else {
-        return Ok(None);
-    };
-    if a.schema.columns().len() != 2 || b.schema.columns().len() != 2 {
-        return Ok(None);
+/// What it costs to sort the rows of a set of places, if they are the statement's.
+fn sort_of(w: &Worked, set: u8) -> Option<u128> {
+    if set > all_places(w.query.places().len()) {
+        return None;
     }
-    if c.schema.columns().len() != 2 {
-        return Ok(None);
+    if !w.takes(&[]) {
+        return None;
     }
-    let Some(indexed) = Indexed::of(&[0, 2, 1]) else {
-        return Ok(None);
-    };
-    let rows = [8, 1024, 1024];
-    let distinct = [1024, 512, 1024];
-    let fans = [1, 1, 1, 1, 2, 1];
-    let stats = Stats::of(
-        alloc,
-        q,
-        &rows,
-        &rows,
-        &[],
-        &distinct,
-        &fans,
-        indexed,
-        USUAL,
-    )?;
-    Ok(Some(stats))
+    Some(sort_cost(&w.query, &w.stats, set, &[]))
 }
 
 #[test]
 fn cardinalities_of_three_tables(rt: HostRuntime) -> Result<(), Fail> {
-    let q = three_places(rt.alloc())?.ok_or("not sound")?;
-    let stats = three_tables(rt.alloc(), &q)?.ok_or("other places")?;
-    assert_eq!(rt; card(&q, &stats, 0b001, &[]), 8 * COST_SCALE, "a");
-    assert_eq!(rt; card(&q, &stats, 0b011, &[]), 8 * COST_SCALE, "a and b");
-    assert_eq!(rt; card(&q, &stats, 0b101, &[]), 16 * COST_SCALE, "a and c");
-    assert_eq!(rt; card(&q, &stats, 0b110, &[]), 1024 * COST_SCALE, "b and c");
-    assert_eq!(rt; card(&q, &stats, 0b111, &[]), COST_SCALE / 64, "all three");
+    let w = smallest_pair_first_is_not_least(rt.alloc())?.ok_or("not sound")?;
+    let cases = [
+        ("a", 0b001, 8 * COST_SCALE),
+        ("a and b", 0b011, 8 * COST_SCALE),
+        ("a and c", 0b101, 16 * COST_SCALE),
+        ("b and c", 0b110, 1024 * COST_SCALE),
+        ("all three", 0b111, COST_SCALE / 64),
+    ];
+    for (what, set, want) in cases {
+        assert_eq!(rt; card_of(&w, set), Some(want), "{what}");
+    }
     Ok(())
 }
 
 #[test]
 fn sorts_of_three_tables(rt: HostRuntime) -> Result<(), Fail> {
-    let q = three_places(rt.alloc())?.ok_or("not sound")?;
-    let stats = three_tables(rt.alloc(), &q)?.ok_or("other places")?;
+    let w = smallest_pair_first_is_not_least(rt.alloc())?.ok_or("not sound")?;
     // 8 has 4 digits, 2^13 has 14, and 2^23 has 24.
-    assert_eq!(rt; sort_cost(&q, &stats, 0b001, &[]), 32 * COST_SCALE, "a");
-    assert_eq!(rt;
-        sort_cost(&q, &stats, 0b011, &[]),
-        112 * COST_SCALE,
-        "a and b"
-    );
-    assert_eq!(rt;
-        sort_cost(&q, &stats, 0b111, &[]),
-        3 * COST_SCALE / 8,
-        "all three"
-    );
+    let cases = [
+        ("a", 0b001, 32 * COST_SCALE),
+        ("a and b", 0b011, 112 * COST_SCALE),
+        ("all three", 0b111, 3 * COST_SCALE / 8),
+    ];
+    for (what, set, want) in cases {
+        assert_eq!(rt; sort_of(&w, set), Some(want), "{what}");
+    }
     Ok(())
 }
 
 /// What a step adds over a set of the three places, if it is valid there.
-fn step_over(q: &Query, stats: &Stats, set: u8, step: StepKind) -> Option<u128>
-    requires places { length q.now.places ≡ 3 }
-    requires sound { IsSoundStats q.now stats.now }
-    requires vector { IsSoundVector q.now stats.now [] }
-{
-    if set >= 8 || !is_valid_step(q, stats.indexed(), set, step) {
+fn step_over(w: &Worked, set: u8, step: StepKind) -> Option<u128> {
+    if set > all_places(w.query.places().len()) {
         return None;
     }
-    Some(step_cost(q, stats, set, &step, &[]))
+    if !is_valid_step(&w.query, w.stats.indexed(), set, step) {
+        return None;
+    }
+    if !w.takes(&[]) {
+        return None;
+    }
+    Some(step_cost(&w.query, &w.stats, set, &step, &[]))
 }
 
 #[test]
 fn each_step_over_three_tables(rt: HostRuntime) -> Result<(), Fail> {
-    let q = three_places(rt.alloc())?.ok_or("not sound")?;
-    let stats = three_tables(rt.alloc(), &q)?.ok_or("other places")?;
+    let w = smallest_pair_first_is_not_least(rt.alloc())?.ok_or("not sound")?;
     let (a, ac) = (0b001, 0b101);
     let cases = [
         // 8 runs over 1024 rows, and 8 rows come out.
@@ -325,27 +183,32 @@ fn each_step_over_three_tables(rt: HostRuntime) -> Result<(), Fail> {
         ("a place that is in", ac, StepKind::Probe(2, 1), None),
     ];
     for (what, set, step, want) in cases {
-        assert_eq!(rt; step_over(&q, &stats, set, step), want, "{what}");
+        assert_eq!(rt; step_over(&w, set, step), want, "{what}");
     }
     Ok(())
 }
 
 /// What a hash join adds to its sides of the three places, if they have no place in common.
-fn join_over(q: &Query, stats: &Stats, left: u8, right: u8) -> Option<u128>
-    requires places { length q.now.places ≡ 3 }
-    requires sound { IsSoundStats q.now stats.now }
-    requires vector { IsSoundVector q.now stats.now [] }
-{
-    if left == 0 || left >= 8 || right == 0 || right >= 8 || !are_apart(left, right) {
+fn join_over(w: &Worked, left: u8, right: u8) -> Option<u128> {
+    let all = all_places(w.query.places().len());
+    if left == 0 || left > all {
         return None;
     }
-    Some(join_cost(q, stats, left, right, &[]))
+    if right == 0 || right > all {
+        return None;
+    }
+    if !are_apart(left, right) {
+        return None;
+    }
+    if !w.takes(&[]) {
+        return None;
+    }
+    Some(join_cost(&w.query, &w.stats, left, right, &[]))
 }
 
 #[test]
 fn each_hash_join_of_three_tables(rt: HostRuntime) -> Result<(), Fail> {
-    let q = three_places(rt.alloc())?.ok_or("not sound")?;
-    let stats = three_tables(rt.alloc(), &q)?.ok_or("other places")?;
+    let w = smallest_pair_first_is_not_least(rt.alloc())?.ok_or("not sound")?;
     let (a, b, ab, bc) = (0b001, 0b010, 0b011, 0b110);
     let cases = [
         // 8 and 1024 rows are hashed, and 8 come out.
@@ -360,19 +223,18 @@ fn each_hash_join_of_three_tables(rt: HostRuntime) -> Result<(), Fail> {
         ("a place on both sides", ab, bc, None),
     ];
     for (what, left, right, want) in cases {
-        assert_eq!(rt; join_over(&q, &stats, left, right), want, "{what}");
+        assert_eq!(rt; join_over(&w, left, right), want, "{what}");
     }
     Ok(())
 }
 
 #[test]
 fn two_probes_over_three_tables_as_a_polynomial(rt: HostRuntime) -> Result<(), Fail> {
-    let q = three_places(rt.alloc())?.ok_or("not sound")?;
-    let stats = three_tables(rt.alloc(), &q)?.ok_or("other places")?;
+    let w = smallest_pair_first_is_not_least(rt.alloc())?.ok_or("not sound")?;
     let a = Rc::new(rt.alloc(), Plan::Base(Access::Seq(0)))?;
     let ac = Rc::new(rt.alloc(), Plan::Probe(a, 2, 1))?;
     let probes = Plan::Probe(ac, 1, 2);
-    let poly = poly_if_valid(rt.alloc(), &q, &stats, probes)?.ok_or("not valid")?;
+    let poly = poly_if_valid(rt.alloc(), &w, probes)?.ok_or("not valid")?;
     // 8 rows, then 136 and 208 and a 64th for the probes.
     assert_eq!(rt;
         poly.terms(),

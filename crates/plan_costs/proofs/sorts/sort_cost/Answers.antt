@@ -1,10 +1,16 @@
-use Rattle.std.proofs.Common.{arith, ◌<◌, ◌*◌, ◌^◌}
-use Rattle.cost_model.proofs.CostBounds.{sort_below_limit}
-use Rattle.cost_model.proofs.SoundNumbers.{are_sized}
+use Rattle.std.proofs.Common.{ap, ◌∙◌, ◌*◌}
+use Rattle.cost_model.specs.Cardinalities.{product_over}
+use Rattle.cost_model.specs.Costs.{digits}
+use Rattle.plan_costs.proofs.StepParts.{sort_parts_fit}
 use Rattle.plan_costs.proofs.sorts.sort_cost.Goals as goal
 
-pub overflow_mul-result : goal.overflow_mul-result
-overflow_mul-result c =
-    let few = sort_below_limit c.args.q.now c.args.stats.now c.args.s.now c.args.set (are_sized c.args.q.now c.args.stats.now c.args.s.now c.places.ensures.sound c.requires.sound c.requires.vector) in
-    let same : c.comparisons.result * c.card.result < 2 ^ 124 = rw (c.comparisons.ensures, c.card.ensures.value) few in
-    omega arith
+pub sort_cost_of-requires-clause-fits : goal.sort_cost_of-requires-clause-fits
+sort_cost_of-requires-clause-fits c =
+    sort_parts_fit c.args.q.now c.args.stats.now c.args.s.now c.args.set _ c.places.ensures.sound c.requires.sound c.requires.vector c.card.ensures.value
+
+pub returns : goal.returns
+returns c =
+    record {
+      value = c.sort_cost_of.ensures.value
+          ∙ ap (λ n. c.args.stats.now.weights.sort * digits (product_over c.args.set 0 c.args.stats.now.rows) * n) c.card.ensures.value;
+    }
