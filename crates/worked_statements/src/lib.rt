@@ -8,7 +8,6 @@
 
 mod examples;
 mod numbers;
-mod parameters;
 mod soundness;
 mod statements;
 

@@ -6,9 +6,8 @@ ghost use Rattle.plan_trees.specs.Statistics.{AreWeights, IsSoundStats, IsWithin
 ghost use Rattle.plan_trees.specs.Statistics.{selectivities_on as selectivities_of_place, weighted_size};
 ghost use Rattle.worked_statements.specs.Fitting.{ArePartsSound, DoFansFit, DoesVectorFit};
 
-use crate::parameters::is_parameterised;
 use plan_trees::{Stats, Weights};
-use row_values::{Place, Pred, Query};
+use row_values::{Place, Pred, Query, is_parameterised};
 
 /// The most rows of a table.
 const ROW_LIMIT: u64 = 1 << 20;
