@@ -2,13 +2,14 @@
 ghost use Rattle.std.specs.Prelude.{◌≡◌, ◌<◌, ◌≤◌, ◌+◌, ◌^◌, IfOk, length};
 ghost use Rattle.row_values.specs.Statements.{IsSoundQuery};
 ghost use Rattle.plan_trees.specs.Statistics.{IsSoundStats, IsSoundVector};
+ghost use Rattle.plan_costs.specs.Cards.{AreCards};
 ghost use Rattle.join_optimizer.specs.Found.{AreFound, plan_in, table_of};
 ghost use Rattle.cost_model.specs.LeastCost.{TakesSplit};
 ghost use Rattle.join_optimizer.specs.Search.{AreCheapest, Offered, TakesBetween};
 
 use crate::found::{Cheapest, take_hash_join};
 use crate::last_places::cell_at;
-use plan_costs::join_cost;
+use plan_costs::join_cost_with;
 use plan_trees::{Stats, hash_join_edge};
 use row_values::{OutOfMemory, Query};
 use std::alloc::Global;
@@ -19,6 +20,7 @@ fn by_split(
     q: &Query,
     stats: &Stats,
     s: &[u64],
+    cards: &[u128],
     cells: &[Cheapest],
     set: u8,
     right: u8,
@@ -27,6 +29,7 @@ fn by_split(
     requires query { IsSoundQuery q.now }
     requires sound { IsSoundStats q.now stats.now }
     requires vector { IsSoundVector q.now stats.now s.now }
+    requires cards { AreCards q.now stats.now s.now cards.now }
     requires there { set < 2 ^ length q.now.places }
     requires some { 1 ≤ right }
     requires part { right < set }
@@ -39,7 +42,7 @@ fn by_split(
     let Some(edge) = hash_join_edge(q, left, right) else {
         return Ok(best);
     };
-    let cost = join_cost(q, stats, left, right, s);
+    let cost = join_cost_with(q, stats, cards, left, right, s);
     let outer = cell_at(cells, left);
     let inner = cell_at(cells, right);
     let any = take_hash_join(alloc, &outer.any, &inner.any, edge, cost, best.any)?;
@@ -53,6 +56,7 @@ pub(crate) fn by_splits(
     q: &Query,
     stats: &Stats,
     s: &[u64],
+    cards: &[u128],
     cells: &[Cheapest],
     set: u8,
     first: Cheapest,
@@ -60,6 +64,7 @@ pub(crate) fn by_splits(
     requires query { IsSoundQuery q.now }
     requires sound { IsSoundStats q.now stats.now }
     requires vector { IsSoundVector q.now stats.now s.now }
+    requires cards { AreCards q.now stats.now s.now cards.now }
     requires there { set < 2 ^ length q.now.places }
     requires some { 0 < set }
     requires cells { AreCheapest q.now stats.now s.now cells.now set }
@@ -69,7 +74,7 @@ pub(crate) fn by_splits(
 {
     let mut best = first;
     for right in 1..set {
-        best = by_split(alloc, q, stats, s, cells, set, right, best)?;
+        best = by_split(alloc, q, stats, s, cards, cells, set, right, best)?;
     }
     Ok(best)
 }

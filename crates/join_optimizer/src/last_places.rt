@@ -4,12 +4,13 @@ ghost use Rattle.row_values.specs.Statements.{IsSoundQuery};
 ghost use Rattle.plan_trees.specs.Lists.{IsAccessOf, IsStepInto};
 ghost use Rattle.plan_trees.specs.PlaceSets.{one};
 ghost use Rattle.plan_trees.specs.Statistics.{IsSoundStats, IsSoundVector};
+ghost use Rattle.plan_costs.specs.Cards.{AreCards};
 ghost use Rattle.join_optimizer.specs.Found.{AreFound, cost_in, nothing, plan_in, table_of};
 ghost use Rattle.cost_model.specs.LeastCost.{TakesPlace};
 ghost use Rattle.join_optimizer.specs.Search.{AreCheapest, Offered, TakesAccess, TakesAll, TakesBetween, TakesStep};
 
 use crate::found::{Cheapest, take_access, take_sorted_access, take_step};
-use plan_costs::{access_unit, step_cost};
+use plan_costs::{access_unit, step_cost_with};
 use plan_trees::{Access, COST_SCALE, Stats, StepKind, accesses, has_place, one_place, steps};
 use row_values::{OutOfMemory, Query};
 use std::alloc::Global;
@@ -77,6 +78,7 @@ fn offer_step(
     q: &Query,
     stats: &Stats,
     s: &[u64],
+    cards: &[u128],
     outer: &Cheapest,
     from: u8,
     place: u8,
@@ -86,6 +88,7 @@ fn offer_step(
     requires query { IsSoundQuery q.now }
     requires sound { IsSoundStats q.now stats.now }
     requires vector { IsSoundVector q.now stats.now s.now }
+    requires cards { AreCards q.now stats.now s.now cards.now }
     requires there { from < 2 ^ length q.now.places }
     requires outer { AreFound q.now stats.now s.now from (plan_in outer.now) }
     requires valid { IsStepInto q.now stats.now.indexed from place step }
@@ -93,7 +96,7 @@ fn offer_step(
     ensures { IfOk result (λ after. Offered q.now stats.now s.now (from + one place)
         (TakesStep q.now stats.now s.now (cost_in outer.now) from step) best after) }
 {
-    let cost = step_cost(q, stats, from, &step, s);
+    let cost = step_cost_with(q, stats, cards, from, step, s);
     let any = take_step(alloc, &outer.any, step, cost, best.any)?;
     let sorted = take_step(alloc, &outer.sorted, step, cost, best.sorted)?;
     Ok(Cheapest { any, sorted })
@@ -105,6 +108,7 @@ fn by_steps(
     q: &Query,
     stats: &Stats,
     s: &[u64],
+    cards: &[u128],
     outer: &Cheapest,
     from: u8,
     place: u8,
@@ -113,6 +117,7 @@ fn by_steps(
     requires query { IsSoundQuery q.now }
     requires sound { IsSoundStats q.now stats.now }
     requires vector { IsSoundVector q.now stats.now s.now }
+    requires cards { AreCards q.now stats.now s.now cards.now }
     requires there { from < 2 ^ length q.now.places }
     requires outer { AreFound q.now stats.now s.now from (plan_in outer.now) }
     requires first { AreFound q.now stats.now s.now (from + one place) (plan_in first) }
@@ -123,7 +128,7 @@ fn by_steps(
     let list = steps(alloc, q, stats.indexed(), from, place)?;
     let mut best = first;
     for step in &list {
-        best = offer_step(alloc, q, stats, s, outer, from, place, *step, best)?;
+        best = offer_step(alloc, q, stats, s, cards, outer, from, place, *step, best)?;
     }
     Ok(best)
 }
@@ -134,6 +139,7 @@ fn by_place(
     q: &Query,
     stats: &Stats,
     s: &[u64],
+    cards: &[u128],
     cells: &[Cheapest],
     set: u8,
     place: u8,
@@ -142,6 +148,7 @@ fn by_place(
     requires query { IsSoundQuery q.now }
     requires sound { IsSoundStats q.now stats.now }
     requires vector { IsSoundVector q.now stats.now s.now }
+    requires cards { AreCards q.now stats.now s.now cards.now }
     requires there { set < 2 ^ length q.now.places }
     requires place { place < length q.now.places }
     requires cells { AreCheapest q.now stats.now s.now cells.now set }
@@ -158,7 +165,7 @@ fn by_place(
         return Ok(best);
     }
     let outer = cell_at(cells, from);
-    let best = by_steps(alloc, q, stats, s, outer, from, place, first)?;
+    let best = by_steps(alloc, q, stats, s, cards, outer, from, place, first)?;
     Ok(best)
 }
 
@@ -168,12 +175,14 @@ pub(crate) fn by_places(
     q: &Query,
     stats: &Stats,
     s: &[u64],
+    cards: &[u128],
     cells: &[Cheapest],
     set: u8,
 ) -> Result<Cheapest, OutOfMemory>
     requires query { IsSoundQuery q.now }
     requires sound { IsSoundStats q.now stats.now }
     requires vector { IsSoundVector q.now stats.now s.now }
+    requires cards { AreCards q.now stats.now s.now cards.now }
     requires there { set < 2 ^ length q.now.places }
     requires cells { AreCheapest q.now stats.now s.now cells.now set }
     ensures { IfOk result (λ best. Offered q.now stats.now s.now set
@@ -185,7 +194,7 @@ pub(crate) fn by_places(
         sorted: None,
     };
     for place in 0..q.places().len() as u8 {
-        best = by_place(alloc, q, stats, s, cells, set, place, best)?;
+        best = by_place(alloc, q, stats, s, cards, cells, set, place, best)?;
     }
     Ok(best)
 }

@@ -2,6 +2,7 @@
 ghost use Rattle.std.specs.Prelude.{◌<◌, ◌^◌, IfOk, length};
 ghost use Rattle.row_values.specs.Statements.{IsSoundQuery};
 ghost use Rattle.plan_trees.specs.Statistics.{IsSoundStats, IsSoundVector};
+ghost use Rattle.plan_costs.specs.Cards.{AreCards};
 ghost use Rattle.join_optimizer.specs.Found.{AreFound, cost_in, plan_in, table_of};
 ghost use Rattle.cost_model.specs.LeastCost.{IsFeasiblePotential};
 ghost use Rattle.join_optimizer.specs.Search.{AreCheapest};
@@ -20,12 +21,14 @@ fn cheapest_of(
     q: &Query,
     stats: &Stats,
     s: &[u64],
+    cards: &[u128],
     cells: &[Cheapest],
     set: u8,
 ) -> Result<Cheapest, OutOfMemory>
     requires query { IsSoundQuery q.now }
     requires sound { IsSoundStats q.now stats.now }
     requires vector { IsSoundVector q.now stats.now s.now }
+    requires cards { AreCards q.now stats.now s.now cards.now }
     requires some { 0 < set }
     requires there { set < 2 ^ length q.now.places }
     requires cells { AreCheapest q.now stats.now s.now cells.now set }
@@ -33,9 +36,9 @@ fn cheapest_of(
     ensures feasible { IfOk result (λ best. IsFeasiblePotential q.now stats.now s.now (table_of cells.now) set
         (cost_in best)) }
 {
-    let placed = by_places(alloc, q, stats, s, cells, set)?;
-    let joined = by_splits(alloc, q, stats, s, cells, set, placed)?;
-    let best = by_sort(alloc, q, stats, s, set, joined)?;
+    let placed = by_places(alloc, q, stats, s, cards, cells, set)?;
+    let joined = by_splits(alloc, q, stats, s, cards, cells, set, placed)?;
+    let best = by_sort(alloc, q, stats, s, cards, set, joined)?;
     Ok(best)
 }
 
@@ -45,10 +48,12 @@ pub(crate) fn cheapest_plans(
     q: &Query,
     stats: &Stats,
     s: &[u64],
+    cards: &[u128],
 ) -> Result<Vec<Cheapest>, OutOfMemory>
     requires query { IsSoundQuery q.now }
     requires sound { IsSoundStats q.now stats.now }
     requires vector { IsSoundVector q.now stats.now s.now }
+    requires cards { AreCards q.now stats.now s.now cards.now }
     ensures { IfOk result (λ cells. AreCheapest q.now stats.now s.now cells.items
         (2 ^ length q.now.places)) }
 {
@@ -59,7 +64,7 @@ pub(crate) fn cheapest_plans(
     })?;
     let end = all_places(q.places().len()) + 1;
     for set in 1..end {
-        let best = cheapest_of(alloc, q, stats, s, &cells, set)?;
+        let best = cheapest_of(alloc, q, stats, s, cards, &cells, set)?;
         cells.push(best)?;
     }
     Ok(cells)

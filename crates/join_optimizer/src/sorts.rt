@@ -2,12 +2,13 @@
 ghost use Rattle.std.specs.Prelude.{◌<◌, ◌^◌, IfOk, length};
 ghost use Rattle.row_values.specs.Statements.{IsSoundQuery};
 ghost use Rattle.plan_trees.specs.Statistics.{IsSoundStats, IsSoundVector};
+ghost use Rattle.plan_costs.specs.Cards.{AreCards};
 ghost use Rattle.join_optimizer.specs.Found.{AreFound, plan_in};
 ghost use Rattle.cost_model.specs.LeastCost.{TakesSort};
 ghost use Rattle.join_optimizer.specs.Search.{Offered};
 
 use crate::found::{Cheapest, take_ordered};
-use plan_costs::sort_cost;
+use plan_costs::sort_cost_with;
 use plan_trees::{Stats, has_wanted, wants_some_order};
 use row_values::{OutOfMemory, Query};
 use std::alloc::Global;
@@ -18,12 +19,14 @@ pub(crate) fn by_sort(
     q: &Query,
     stats: &Stats,
     s: &[u64],
+    cards: &[u128],
     set: u8,
     best: Cheapest,
 ) -> Result<Cheapest, OutOfMemory>
     requires query { IsSoundQuery q.now }
     requires sound { IsSoundStats q.now stats.now }
     requires vector { IsSoundVector q.now stats.now s.now }
+    requires cards { AreCards q.now stats.now s.now cards.now }
     requires there { set < 2 ^ length q.now.places }
     requires best { AreFound q.now stats.now s.now set (plan_in best) }
     ensures { IfOk result (λ after. Offered q.now stats.now s.now set
@@ -35,7 +38,7 @@ pub(crate) fn by_sort(
     if !has_wanted(q, set) {
         return Ok(best);
     }
-    let cost = sort_cost(q, stats, set, s);
+    let cost = sort_cost_with(q, stats, cards, set, s);
     let Cheapest {
         any,
         sorted: before,
