@@ -48,7 +48,7 @@ faithful_after cache q s executions later budget more less few h =
 abbrev pub used : Anchor → Anchor
 used anchor = record anchor { uses = anchor.uses + 1 }
 
-each_used : (P Q : Anchor → Type 0) → ((anchor : Anchor) → P anchor → Q anchor)
+pub each_used : (P Q : Anchor → Type 0) → ((anchor : Anchor) → P anchor → Q anchor)
     → ((anchor : Anchor) → P anchor → Q (used anchor)) → (anchors : List Anchor) (position : ℕ)
     → AllByRecursion P anchors → AllByRecursion Q (used_at anchors position)
 each_used P Q to more [] position h = tt
@@ -58,7 +58,7 @@ each_used P Q to more (anchor ∷ anchors) (suc position) h = (to anchor h.0, ea
 abbrev pub Rises : Anchor → Anchor → Type 0
 Rises a b = a.execution < b.execution
 
-rise_used : (anchors : List Anchor) (position : ℕ) → EachTwo Rises anchors → EachTwo Rises (used_at anchors position)
+pub rise_used : (anchors : List Anchor) (position : ℕ) → EachTwo Rises anchors → EachTwo Rises (used_at anchors position)
 rise_used [] position h = tt
 rise_used (anchor ∷ anchors) zero h = (h.0, h.1)
 rise_used (anchor ∷ anchors) (suc position) h = (
@@ -66,7 +66,7 @@ rise_used (anchor ∷ anchors) (suc position) h = (
   rise_used anchors position h.1,
 )
 
-length_used : (anchors : List Anchor) (position : ℕ) → length (used_at anchors position) ≡ length anchors
+pub length_used : (anchors : List Anchor) (position : ℕ) → length (used_at anchors position) ≡ length anchors
 length_used [] position = refl
 length_used (anchor ∷ anchors) zero = refl
 length_used (anchor ∷ anchors) (suc position) = ap (λ (n : ℕ). suc n) (length_used anchors position)

@@ -1,0 +1,5 @@
+pub mod Changes
+pub mod Ordering
+pub mod Steps
+pub mod Summing
+pub mod Views

@@ -1,0 +1,5 @@
+pub mod Anchors
+pub mod Contents
+pub mod Instances
+pub mod Sums
+pub mod Window
