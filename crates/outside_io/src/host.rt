@@ -5,7 +5,7 @@
 //! isn't found is no fault but a miss. The loops are proved over every reader and writer that tells
 //! its bytes.
 
-ghost use Rattle.std.specs.Prelude.{◌≡◌, ◌≢◌, ◌+◌, ◌≤◌, ◌<◌, ◌↔◌, [], length, None};
+ghost use Rattle.std.specs.Prelude.{◌≡◌, ◌≢◌, ◌+◌, ◌≤◌, ◌<◌, ◌↔◌, [], length, None, IfErr, OnErr, OnOk};
 ghost use Rattle.std.specs.IoError.{error_kind};
 ghost use Rattle.outside_model.specs.Files.{Told, up_to};
 ghost use Rattle.outside_io.specs.Calls.{Fetches, Puts, TakesTold, faults_after, misses_after, faults_after_put};
@@ -89,14 +89,17 @@ fn why_closed(fault: &io::Error) -> Fetched
     }
 }
 
-/// Fetches a file of the system.
-fn fetch_file<R: Files>(rt: &R, name: &str, limit: usize, into: &mut Vec<u8>) -> Fetched
+/// What is got of a file that was opened, or why there is none: the one place that decides what is missing.
+fn fetch_opened<F: Read + Drop>(opened: io::Result<F>, limit: usize, into: &mut Vec<u8>) -> Fetched
     requires { limit < usize.MAX }
+    ensures opened { OnOk opened (result ≢ Fetched.Missing) }
+    ensures closed { IfErr opened (λ fault. (result ≡ Fetched.Missing) ↔ (error_kind fault ≡ ErrorKind.NotFound)) }
+    ensures failed { OnErr opened (result ≢ Fetched.Missing → result ≡ Fetched.Failed) }
     ensures long { length into.new.items ≤ limit + 1 }
     ensures empty { result ≢ Fetched.Got → into.new.items ≡ [] }
 {
     into.clear();
-    let mut file = match fs::open(rt, name) {
+    let mut file = match opened {
         Ok(file) => file,
         Err(fault) => return why_closed(&fault),
     };
@@ -123,7 +126,7 @@ impl<R: Files> Shelf for FileShelf<R> {
         ensures faults { self.new.faults ≡ faults_after self.old.faults result }
         ensures misses { self.new.misses ≡ misses_after self.old.misses result }
     {
-        let fetched = fetch_file(&self.rt, name, limit, into);
+        let fetched = fetch_opened(fs::open(&self.rt, name), limit, into);
         match fetched {
             Fetched::Missing => self.misses = self.misses.saturating_add(1),
             Fetched::Failed => self.faults = self.faults.saturating_add(1),
