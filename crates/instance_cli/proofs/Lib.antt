@@ -1,2 +1,4 @@
-mod FileFacts
+pub mod Headlines
 pub mod Runs
+pub mod Scripts
+pub mod Served

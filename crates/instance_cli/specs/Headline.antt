@@ -1,59 +1,54 @@
--- What the top call promises, over plain values: what was written, and why the job ended.
-use Rattle.std.specs.Prelude.{ℕ, ◌≡◌, ◌<◌, ◌≤◌, ◌⊎◌, List, length, Bool, true, false, Option, Some, None}
+-- What the top call promises: what was written, and why the job ended. To be read aloud.
+use Rattle.std.specs.Prelude.{ℕ, ◌≡◌, ◌<◌, ◌≤◌, ◌⊎◌, List, length, true, false, Option, Some, None}
 use Rattle.std.specs.Str.{IsUtf8}
 use Rattle.outside_model.specs.Causes.{Rose}
 use Rattle.outside_model.specs.declared.TheConstants.{SCRIPT_LIMIT}
 use Rattle.outside_model.specs.Files.{Files, Told}
-use Rattle.instance_cli.specs.Report.{ReportsRun, ReportsFront}
+use Rattle.outside_model.specs.Outside.{Outside}
+use Rattle.instance_cli.specs.Report.{ReportsRun, ReportsPrefix}
 use Rattle.instance_cli.specs.Script.{script_of}
+use Rattle.instance_cli.specs.Words.{Mode, NoMode, RunMode}
 use Rattle.instance_cli.specs.declared.outcome.Status.{Status}
 use Rattle.instance_cli.specs.declared.outcome.Status.TheVariants as status
 
--- where files and the sink are told, the script of this name is there and gave its whole report
-abbrev pub WholeReport : Option Files → List ℕ → Option (List ℕ) → Option (List ℕ) → Bool → Type 0
-WholeReport files name old new refused = Told files (λ told. Told old (λ taken.
-    (bytes : List ℕ) × (told name ≡ Some bytes) × ReportsRun told bytes taken new refused))
+-- the script of this name was read: it is what the files have, where they are told, and this holds of its bytes
+abbrev pub OfScript : List ℕ → Option Files → (List ℕ → Type 0) → Type 0
+OfScript name files P = (bytes : List ℕ) × Told files (λ told. told name ≡ Some bytes) × P bytes
 
--- where files and the sink are told, the script of this name is there and gave a front of its report
-abbrev pub FrontOfReport : Option Files → List ℕ → Option (List ℕ) → Option (List ℕ) → Type 0
-FrontOfReport files name old new = Told files (λ told. Told old (λ taken.
-    (bytes : List ℕ) × (told name ≡ Some bytes) × ReportsFront told bytes taken new))
+-- the same of a script that may have been read in part alone, where the files are told
+abbrev pub OfToldScript : List ℕ → Option Files → (List ℕ → Type 0) → Type 0
+OfToldScript name files P = Told files (λ told. (bytes : List ℕ) × (told name ≡ Some bytes) × P bytes)
 
--- where the sink is told, nothing was taken
-abbrev pub TookNothing : Option (List ℕ) → Option (List ℕ) → Type 0
-TookNothing old new = Told old (λ taken. new ≡ Some taken)
+-- where the sink is told, it took nothing
+abbrev pub TookNothing : Outside → Outside → Type 0
+TookNothing before after = Told before.taken (λ taken. after.taken ≡ Some taken)
 
--- the run of the script of this name
-pub record Headline (name : List ℕ) (files : Option Files) (old_taken new_taken : Option (List ℕ)) (old_faults new_faults old_misses new_misses old_sink new_sink : ℕ) (result : Status) : Type 0 where
-  -- status 0: the whole script was run, no line was refused, and what was written is the report
-  pub done : result ≡ status.Done → WholeReport files name old_taken new_taken false
-  -- status 1: the same, and some line was refused
-  pub done_refused : result ≡ status.DoneRefused → WholeReport files name old_taken new_taken true
-  -- the words do mean settings
+-- the run of the script of this name, with the outside before and after it
+pub record Headline (name : List ℕ) (before after : Outside) (result : Status) : Type 0 where
+  -- with status 0 the whole script was run, what was taken is its report, and no line was refused
+  pub done : result ≡ status.Done → OfScript name before.files (λ bytes. ReportsRun bytes before after false)
+  -- with status 1 the same, and some line was refused
+  pub refused : result ≡ status.DoneRefused → OfScript name before.files (λ bytes. ReportsRun bytes before after true)
+  -- with status 3 the script isn't there, and the shelf missed it
+  pub missing : result ≡ status.Missing → Told before.files (λ files. files name ≡ None) × Rose before.misses after.misses
+  -- with status 4 the shelf failed, with status 5 the sink
+  pub read_fault : result ≡ status.ReadFault → Rose before.faults after.faults
+  pub write_fault : result ≡ status.WriteFault → Rose before.sink_faults after.sink_faults
+  -- with status 7 the script is above 16 MiB, with status 8 it isn't, and is no text
+  pub too_long : result ≡ status.TooLong → OfToldScript name before.files (λ bytes. SCRIPT_LIMIT < length bytes)
+  pub not_text : result ≡ status.NotText →
+      OfToldScript name before.files (λ bytes. (length bytes ≤ SCRIPT_LIMIT) × ¬ IsUtf8 (script_of bytes))
+  -- the words mean settings, nothing is verified, and no weights are read yet: 2, 9 and 10 don't come
   pub usage : result ≡ status.Usage → ⊥
-  -- the script isn't there
-  pub missing : result ≡ status.Missing → Told files (λ told. told name ≡ None)
-  -- memory is asked for only once the script is known to be there
-  pub memory : result ≡ status.Memory → Told files (λ told. (bytes : List ℕ) × (told name ≡ Some bytes))
-  pub missing_cause : result ≡ status.Missing → Rose old_misses new_misses
-  pub read_cause : result ≡ status.ReadFault → Rose old_faults new_faults
-  pub write_cause : result ≡ status.WriteFault → Rose old_sink new_sink
-  -- the script is above 16 MiB
-  pub too_long : result ≡ status.TooLong → Told files (λ told. (bytes : List ℕ) × (told name ≡ Some bytes) × (SCRIPT_LIMIT < length bytes))
-  -- the script is no UTF-8
-  pub not_text : result ≡ status.NotText → Told files (λ told. (bytes : List ℕ) × (told name ≡ Some bytes) × (length bytes ≤ SCRIPT_LIMIT) × ¬ IsUtf8 (script_of bytes))
-  -- these don't come yet
   pub rejected : result ≡ status.Rejected → ⊥
   pub bad_weights : result ≡ status.BadWeights → ⊥
-  -- what was taken where the job ended before the lines
-  pub nothing : (result ≡ status.Missing) ⊎ (result ≡ status.TooLong) ⊎ (result ≡ status.NotText) → new_taken ≡ old_taken
-  -- what was taken where a read failed or memory was short: nothing, or a front of the report
-  pub front : (result ≡ status.ReadFault) ⊎ (result ≡ status.Memory) → TookNothing old_taken new_taken ⊎ FrontOfReport files name old_taken new_taken
-  -- what was taken where a write failed: a front of the report
-  pub write_front : result ≡ status.WriteFault → FrontOfReport files name old_taken new_taken
+  -- with 3, 7 and 8 nothing was taken
+  pub nothing : (result ≡ status.Missing) ⊎ (result ≡ status.TooLong) ⊎ (result ≡ status.NotText) → after.taken ≡ before.taken
+  -- with 4, 5 and 6 nothing, or whole replies of a run of the script and then what `EndsWith` says of the next one
+  pub prefix : (result ≡ status.ReadFault) ⊎ (result ≡ status.WriteFault) ⊎ (result ≡ status.Memory) →
+      TookNothing before after ⊎ OfScript name before.files (λ bytes. ReportsPrefix bytes before after result)
 
--- the whole promise: words that mean no settings are status 2 and nothing else happens
-abbrev pub TopPromise : Option (List ℕ) → Option Files → Option (List ℕ) → Option (List ℕ) → ℕ → ℕ → ℕ → ℕ → ℕ → ℕ → Status → Type 0
-TopPromise None files old_taken new_taken old_faults new_faults old_misses new_misses old_sink new_sink result = (result ≡ status.Usage) × (new_taken ≡ old_taken)
-TopPromise (Some name) files old_taken new_taken old_faults new_faults old_misses new_misses old_sink new_sink result =
-    Headline name files old_taken new_taken old_faults new_faults old_misses new_misses old_sink new_sink result
+-- the whole promise: words that mean no settings are status 2, and nothing else happens
+abbrev pub TopPromise : Mode → Outside → Outside → Status → Type 0
+TopPromise NoMode before after result = (result ≡ status.Usage) × (after.taken ≡ before.taken)
+TopPromise (RunMode name) before after result = Headline name before after result

@@ -1,93 +1,119 @@
--- What serving some lines leaves: a run, and its report in the sink.
-use Rattle.std.specs.Prelude.{ℕ, ◌≡◌, ◌≤◌, ◌++◌, List, take, length, Bool, true, false, Option, Some, None}
+-- What serving the lines of a script leaves: a run, and its report in the sink.
+use Rattle.std.specs.Prelude.{ℕ, ◌≡◌, ◌≤◌, List, [], ◌∷◌, ◌++◌, take, length, Bool, Option, Some, None, IsSome}
 use Rattle.std.specs.Str.{IsUtf8}
+use Rattle.outside_model.specs.Causes.{Rose}
 use Rattle.outside_model.specs.declared.TheConstants.{SCRIPT_LIMIT}
 use Rattle.outside_model.specs.Files.{Files, Told}
-use Rattle.session_model.specs.State.{State}
-use Rattle.session_model.specs.Step.{Step, file_for}
-use Rattle.script_report.specs.Commands.{Reading}
-use Rattle.session_model.specs.Run.{Line, IsRun, Run, is_silent, spoken_lines, report_text, some_refusal}
+use Rattle.outside_model.specs.Outside.{Outside}
+use Rattle.script_report.specs.Commands.{Reading, reading_of}
+use Rattle.script_report.specs.Replies.{reply_text}
 use Rattle.script_report.specs.declared.replies.Reply.{Reply}
+use Rattle.session_model.specs.Run.{Line, IsChain, spoken_lines, report_text, some_refusal}
+use Rattle.session_model.specs.State.{State, initial_state}
+use Rattle.session_model.specs.Step.{Step, asks_for, file_of}
+use Rattle.instance_cli.specs.Defaults.{default_settings}
 use Rattle.instance_cli.specs.Script.{script_of}
 use Rattle.instance_cli.specs.declared.outcome.Status.{Status}
 use Rattle.instance_cli.specs.declared.outcome.Status.TheVariants as status
 
--- a line that says this is silent and changes nothing, or this reply is its step
-abbrev pub Answers : Option Files → State → Reading → Option Reply → State → Type 0
-Answers files before reading None after = (is_silent reading ≡ true) × (after ≡ before)
-Answers files before reading (Some answer) after =
-    (is_silent reading ≡ false) × Told files (λ told. Step before reading (file_for told reading) answer after)
+-- Lines.
 
--- the replies to these lines are a run, their texts were taken, and some reply is a refusal or none
-abbrev pub Reported : Option Files → Option (List ℕ) → Option (List ℕ) → State → List Line → State → Bool → Type 0
-Reported files old new before lines after refused = Told files (λ told. Told old (λ bytes.
-    (replies : List Reply) × IsRun told before lines replies after × (new ≡ Some (bytes ++ report_text lines replies)) × (some_refusal replies ≡ refused)))
+-- between two lines: the session's state, and how many files were missed so far
+pub record Moment : Type 0 where
+  pub state : State
+  pub misses : ℕ
 
--- a front of the report of a run over the first of these lines was taken
-abbrev pub ReportedInFront : Option Files → Option (List ℕ) → Option (List ℕ) → State → List Line → Type 0
-ReportedInFront files old new before lines = Told files (λ told. Told old (λ bytes.
-    (front : List Line) × (rest : List Line) × (lines ≡ front ++ rest)
-    × (replies : List Reply) × (after : State) × (count : ℕ) × IsRun told before front replies after × (new ≡ Some (bytes ++ take count (report_text front replies)))))
+-- a file that a line asks for is none only where misses rose
+abbrev pub IsMissed : Option (List ℕ) → Option (List ℕ) → ℕ → ℕ → Type 0
+IsMissed (Some bytes) asked before after = Unit {0}
+IsMissed None None before after = Unit {0}
+IsMissed None (Some name) before after = Rose before after
 
--- the job was cut short
-abbrev pub IsCutShort : Status → Type 0
-IsCutShort status.ReadFault = Unit {0}
-IsCutShort status.WriteFault = Unit {0}
-IsCutShort status.Memory = Unit {0}
-IsCutShort status.Done = ⊥
-IsCutShort status.DoneRefused = ⊥
-IsCutShort status.Usage = ⊥
-IsCutShort status.Missing = ⊥
-IsCutShort status.TooLong = ⊥
-IsCutShort status.NotText = ⊥
-IsCutShort status.Rejected = ⊥
-IsCutShort status.BadWeights = ⊥
+-- a line that says this was served: the reply is its step over a file or none, which is the one of the files where they
+-- are told, and is missing only where misses rose meanwhile
+pub record Serves (files : Option Files) (before : Moment) (reading : Reading) (reply : Reply) (after : Moment) : Type 0 where
+  pub file : Option (List ℕ)
+  pub step : Step before.state reading file reply after.state
+  pub told : Told files (λ told. file ≡ file_of told reading)
+  pub missed : IsMissed file (asks_for reading) before.misses after.misses
+  pub goes_on : before.misses ≤ after.misses
 
--- the lines were served, all or some
-abbrev pub IsOfLines : Status → Type 0
-IsOfLines status.Done = Unit {0}
-IsOfLines status.DoneRefused = Unit {0}
-IsOfLines status.ReadFault = Unit {0}
-IsOfLines status.WriteFault = Unit {0}
-IsOfLines status.Memory = Unit {0}
-IsOfLines status.Usage = ⊥
-IsOfLines status.Missing = ⊥
-IsOfLines status.TooLong = ⊥
-IsOfLines status.NotText = ⊥
-IsOfLines status.Rejected = ⊥
-IsOfLines status.BadWeights = ⊥
+abbrev pub ServesLine : Option Files → Moment → Line → Reply → Moment → Type 0
+ServesLine files before line reply after = Serves files before (reading_of line.text) reply after
 
--- the script was there
-abbrev pub IsOfScript : Status → Type 0
-IsOfScript status.Done = Unit {0}
-IsOfScript status.DoneRefused = Unit {0}
-IsOfScript status.ReadFault = Unit {0}
-IsOfScript status.WriteFault = Unit {0}
-IsOfScript status.Memory = Unit {0}
-IsOfScript status.TooLong = Unit {0}
-IsOfScript status.NotText = Unit {0}
-IsOfScript status.Usage = ⊥
-IsOfScript status.Missing = ⊥
-IsOfScript status.Rejected = ⊥
-IsOfScript status.BadWeights = ⊥
+-- Scripts.
 
 -- the bytes of a script that is run: few enough, and a text
 pub record IsScript (bytes : List ℕ) : Type 0 where
   pub short : length bytes ≤ SCRIPT_LIMIT
   pub utf8 : IsUtf8 (script_of bytes)
 
--- the bytes of the script gave this report: that of a run over the whole script, with a refusal or none
-pub record ReportsRun (files : Files) (bytes taken : List ℕ) (new : Option (List ℕ)) (refused : Bool) : Type 0 where
+-- the first state, once the script was fetched
+pub record Starts (before : Outside) (first : Moment) : Type 0 where
+  pub state : first.state ≡ initial_state default_settings
+  pub misses : before.misses ≤ first.misses
+
+-- where the sink is told, it took this behind what it had
+abbrev pub Took : Outside → Outside → List ℕ → Type 0
+Took before after bytes = Told before.taken (λ taken. after.taken ≡ Some (taken ++ bytes))
+
+-- the script of these bytes was run: all of its lines were served, what was taken is their report, and some reply is a
+-- refusal or none
+pub record ReportsRun (bytes : List ℕ) (before after : Outside) (refused : Bool) : Type 0 where
   pub script : IsScript bytes
   pub replies : List Reply
-  pub run : Run files (script_of bytes) replies
-  pub report : new ≡ Some (taken ++ report_text (spoken_lines (script_of bytes)) replies)
+  pub first : Moment
+  pub last : Moment
+  pub starts : Starts before first
+  pub run : IsChain (ServesLine before.files) first (spoken_lines (script_of bytes)) replies last
+  pub ends : last.misses ≤ after.misses
+  pub took : Took before after (report_text (spoken_lines (script_of bytes)) replies)
   pub status : some_refusal replies ≡ refused
 
--- the bytes of the script gave the front of the report of a run over the whole script
-pub record ReportsFront (files : Files) (bytes taken : List ℕ) (new : Option (List ℕ)) : Type 0 where
+-- Cuts.
+
+-- the next line asks for a file
+abbrev pub NextAsks : List Line → Type 0
+NextAsks [] = ⊥
+NextAsks (line ∷ lines) = IsSome (asks_for (reading_of line.text))
+
+-- these are the first bytes of the next reply
+abbrev pub IsOfNextReply : List Line → List Reply → List ℕ → Type 0
+IsOfNextReply [] replies cut = ⊥
+IsOfNextReply (line ∷ lines) [] cut = ⊥
+IsOfNextReply (line ∷ lines) (reply ∷ replies) cut = (count : ℕ) × (cut ≡ take count (reply_text line.number reply))
+
+-- what was taken of the next reply, by the status: nothing where a read failed or memory was short, and a read fails
+-- only where the next line asks for a file; the first bytes, where a write failed
+abbrev pub EndsWith : Status → List Line → List Reply → List ℕ → Type 0
+EndsWith status.ReadFault lines replies cut = (cut ≡ []) × NextAsks lines
+EndsWith status.WriteFault lines replies cut = IsOfNextReply lines replies cut
+EndsWith status.Memory lines replies cut = cut ≡ []
+EndsWith status.Done lines replies cut = ⊥
+EndsWith status.DoneRefused lines replies cut = ⊥
+EndsWith status.Usage lines replies cut = ⊥
+EndsWith status.Missing lines replies cut = ⊥
+EndsWith status.TooLong lines replies cut = ⊥
+EndsWith status.NotText lines replies cut = ⊥
+EndsWith status.Rejected lines replies cut = ⊥
+EndsWith status.BadWeights lines replies cut = ⊥
+
+-- the script of these bytes was cut short: its first lines were served and their replies taken whole, then perhaps the
+-- beginning of the next one; and the run goes on from there over the other lines
+pub record ReportsPrefix (bytes : List ℕ) (before after : Outside) (result : Status) : Type 0 where
   pub script : IsScript bytes
+  pub done : List Line
+  pub rest : List Line
+  pub parts : spoken_lines (script_of bytes) ≡ done ++ rest
+  pub first : Moment
+  pub middle : Moment
+  pub last : Moment
   pub replies : List Reply
-  pub run : Run files (script_of bytes) replies
-  pub count : ℕ
-  pub report : new ≡ Some (taken ++ take count (report_text (spoken_lines (script_of bytes)) replies))
+  pub others : List Reply
+  pub starts : Starts before first
+  pub run : IsChain (ServesLine before.files) first done replies middle
+  pub ends : middle.misses ≤ after.misses
+  pub goes_on : IsChain (ServesLine before.files) middle rest others last
+  pub cut : List ℕ
+  pub took : Took before after (report_text done replies ++ cut)
+  pub next : EndsWith result rest others cut

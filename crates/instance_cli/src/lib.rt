@@ -4,6 +4,7 @@
 //! script, and each status has its cause. It knows a shelf and a sink, and no file system.
 #![tactic(auto)]
 
+mod defaults;
 mod job;
 mod outcome;
 mod serving;

@@ -2,20 +2,23 @@
 //!
 //! One line is read, its file fetched, the engine asked, and the reply put by one call. The first failure ends the
 //! job. What was written is at each moment the report of a run over the lines so far.
-ghost use Rattle.std.specs.Prelude.{◌≡◌, ◌≢◌, ◌≤◌, ◌<◌, ◌^◌, ◌+◌, ◌⊎◌, ◌||◌, ◌∷◌, [], ◌++◌, IfOk, IfErr, OnOk, map, length, ℕ, take, true, false};
+ghost use Rattle.std.specs.Prelude.{◌≡◌, ◌≢◌, ◌≤◌, ◌<◌, ◌^◌, ◌+◌, ◌⊎◌, ◌||◌, ◌∷◌, [], ◌++◌, IfOk, IfErr, IsSome, OnOk, map, length, ℕ, take, true, false, Some, None};
+ghost use Rattle.std.specs.Option.{option_map};
 ghost use Rattle.outside_model.specs.Causes.{Rose};
-ghost use Rattle.outside_model.specs.Files.{Told};
+ghost use Rattle.outside_model.specs.Files.{Told, up_to};
 ghost use Rattle.script_report.specs.Commands.{Says, reading_of};
 ghost use Rattle.script_report.specs.Replies.{reply_text};
 ghost use Rattle.session_model.specs.Run.{spoken_from, is_refusal};
-ghost use Rattle.session_model.specs.State.{State, initial_state};
-ghost use Rattle.session_model.specs.Step.{Step, file_for};
-ghost use Rattle.instance_cli.specs.Report.{Answers, IsCutShort, IsOfLines, Reported, ReportedInFront};
+ghost use Rattle.session_model.specs.State.{initial_state};
+ghost use Rattle.session_model.specs.Step.{asks_for, file_of};
+ghost use Rattle.instance_cli.specs.Defaults.{default_settings as defaults};
+ghost use Rattle.instance_cli.specs.Lines.{Answers, Reported, ReportedInPart};
+ghost use Rattle.instance_cli.specs.Report.{IsMissed, Moment, Serves};
 
+use crate::defaults::default_settings;
 use crate::outcome::Status;
 use outside_io::{Fetched, Put, Shelf, Sink};
 use outside_model::FILE_LIMIT;
-use row_values::OutOfMemory;
 use script_report::{Command, LineFault, Reply, read_line, reply_text};
 use session_engine::Engine;
 use std::alloc::Global;
@@ -32,9 +35,13 @@ enum Found {
 /// Fetches the file that a command asks for.
 fn fetch_for<F: Shelf>(alloc: Global, command: &Command, shelf: &mut F, into: &mut Vec<u8>) -> Found
     ensures files { F.files shelf.new ≡ F.files shelf.old }
-    ensures file { result ≡ Found.File → Told (F.files shelf.old) (λ files. file_for files (Says command.now) ≡ Some into.new.items) }
-    ensures nothing { result ≡ Found.Nothing → Told (F.files shelf.old) (λ files. file_for files (Says command.now) ≡ None) }
+    ensures file { result ≡ Found.File →
+        Told (F.files shelf.old) (λ files. option_map (up_to FILE_LIMIT) (file_of files (Says command.now)) ≡ Some into.new.items) }
+    ensures nothing { result ≡ Found.Nothing → Told (F.files shelf.old) (λ files. file_of files (Says command.now) ≡ None) }
+    ensures missed { result ≡ Found.Nothing → IsMissed None (asks_for (Says command.now)) (F.misses shelf.old) (F.misses shelf.new) }
+    ensures failed { result ≡ Found.Failed → IsSome (asks_for (Says command.now)) }
     ensures faults { F.faults shelf.old ≤ F.faults shelf.new }
+    ensures misses { F.misses shelf.old ≤ F.misses shelf.new }
     ensures cause { result ≡ Found.Failed → Rose (F.faults shelf.old) (F.faults shelf.new) }
 {
     match command {
@@ -50,25 +57,28 @@ fn fetch_for<F: Shelf>(alloc: Global, command: &Command, shelf: &mut F, into: &m
     }
 }
 
-/// The answer to a command, with its file.
-fn answer<F: Shelf>(
+/// The reply to a command, over its file.
+fn command_reply<F: Shelf>(
     alloc: Global,
     engine: &mut Engine,
     command: &Command,
     shelf: &mut F,
 ) -> Result<Reply, Status>
-    requires { engine.old.executions + engine.old.versions < 2 ^ 60 }
+    requires { engine.old.steps < 2 ^ 50 }
     ensures files { F.files shelf.new ≡ F.files shelf.old }
-    ensures counts { engine.new.executions + engine.new.versions ≤ engine.old.executions + engine.old.versions + 1 }
-    ensures ok { IfOk result (λ reply. Told (F.files shelf.old) (λ files. Step engine.old (Says command.now) (file_for files (Says command.now)) reply engine.new)) }
-    ensures err { IfErr result (λ status. (status ≡ Status.ReadFault) ⊎ (status ≡ Status.Memory)) }
+    ensures counted { engine.new.steps ≤ engine.old.steps + 1 }
+    ensures ok { IfOk result (λ reply. Serves (F.files shelf.old)
+        (record { state = engine.old.state; misses = F.misses shelf.old }) (Says command.now) reply
+        (record { state = engine.new.state; misses = F.misses shelf.new })) }
+    ensures err { IfErr result (λ status. ((status ≡ Status.ReadFault) × IsSome (asks_for (Says command.now))) ⊎ (status ≡ Status.Memory)) }
     ensures faults { F.faults shelf.old ≤ F.faults shelf.new }
+    ensures misses { F.misses shelf.old ≤ F.misses shelf.new }
     ensures cause { result ≡ Err Status.ReadFault → Rose (F.faults shelf.old) (F.faults shelf.new) }
 {
     let mut bytes = Vec::new(alloc);
     let reply = match fetch_for(alloc, command, shelf, &mut bytes) {
-        Found::File => engine.step(alloc, command, Some(bytes.as_slice())),
-        Found::Nothing => engine.step(alloc, command, None),
+        Found::File => engine.step(command, Some(bytes.as_slice())),
+        Found::Nothing => engine.step(command, None),
         Found::Failed => return Err(Status::ReadFault),
         Found::Memory => return Err(Status::Memory),
     };
@@ -85,19 +95,22 @@ fn reply_for<F: Shelf>(
     text: &str,
     shelf: &mut F,
 ) -> Result<Option<Reply>, Status>
-    requires { engine.old.executions + engine.old.versions < 2 ^ 60 }
+    requires { engine.old.steps < 2 ^ 50 }
     ensures files { F.files shelf.new ≡ F.files shelf.old }
-    ensures counts { engine.new.executions + engine.new.versions ≤ engine.old.executions + engine.old.versions + 1 }
-    ensures ok { IfOk result (λ reply. Answers (F.files shelf.old) engine.old (reading_of text.now) reply engine.new) }
-    ensures err { IfErr result (λ status. (status ≡ Status.ReadFault) ⊎ (status ≡ Status.Memory)) }
+    ensures counted { engine.new.steps ≤ engine.old.steps + 1 }
+    ensures ok { IfOk result (λ reply. Answers (F.files shelf.old)
+        (record { state = engine.old.state; misses = F.misses shelf.old }) (reading_of text.now) reply
+        (record { state = engine.new.state; misses = F.misses shelf.new })) }
+    ensures err { IfErr result (λ status. ((status ≡ Status.ReadFault) × IsSome (asks_for (reading_of text.now))) ⊎ (status ≡ Status.Memory)) }
     ensures faults { F.faults shelf.old ≤ F.faults shelf.new }
+    ensures misses { F.misses shelf.old ≤ F.misses shelf.new }
     ensures cause { result ≡ Err Status.ReadFault → Rose (F.faults shelf.old) (F.faults shelf.new) }
 {
     match read_line(alloc, text) {
         Err(LineFault::Memory) => Err(Status::Memory),
-        Err(LineFault::Syntax) => Ok(Some(engine.refuse_syntax(alloc))),
+        Err(LineFault::Syntax) => Ok(Some(engine.refuse_syntax())),
         Ok(None) => Ok(None),
-        Ok(Some(command)) => match answer(alloc, engine, &command, shelf) {
+        Ok(Some(command)) => match command_reply(alloc, engine, &command, shelf) {
             Err(status) => Err(status),
             Ok(reply) => Ok(Some(reply)),
         },
@@ -112,7 +125,8 @@ fn write_reply<K: Sink>(
     sink: &mut K,
 ) -> Result<(), Status>
     ensures ok { OnOk result (Told (K.taken sink.old) (λ bytes. K.taken sink.new ≡ Some (bytes ++ reply_text number reply.now))) }
-    ensures write { result ≡ Err Status.WriteFault → Told (K.taken sink.old) (λ bytes. (count : ℕ) × (K.taken sink.new ≡ Some (bytes ++ take count (reply_text number reply.now)))) }
+    ensures write { result ≡ Err Status.WriteFault →
+        Told (K.taken sink.old) (λ bytes. (count : ℕ) × (K.taken sink.new ≡ Some (bytes ++ take count (reply_text number reply.now)))) }
     ensures memory { result ≡ Err Status.Memory → Told (K.taken sink.old) (λ bytes. K.taken sink.new ≡ Some bytes) }
     ensures err { IfErr result (λ status. (status ≡ Status.WriteFault) ⊎ (status ≡ Status.Memory)) }
     ensures faults { K.faults sink.old ≤ K.faults sink.new }
@@ -147,11 +161,15 @@ fn serve_line<F: Shelf, K: Sink>(
     shelf: &mut F,
     sink: &mut K,
 ) -> Result<bool, Status>
-    requires { engine.old.executions + engine.old.versions < 2 ^ 60 }
+    requires { engine.old.steps < 2 ^ 50 }
     ensures files { F.files shelf.new ≡ F.files shelf.old }
-    ensures counts { engine.new.executions + engine.new.versions ≤ engine.old.executions + engine.old.versions + 1 }
-    ensures ok { IfOk result (λ refused. Reported (F.files shelf.old) (K.taken sink.old) (K.taken sink.new) engine.old (spoken_from number (text.now ∷ [])) engine.new refused) }
-    ensures err { IfErr result (λ status. IsCutShort status × ReportedInFront (F.files shelf.old) (K.taken sink.old) (K.taken sink.new) engine.old (spoken_from number (text.now ∷ []))) }
+    ensures counted { engine.new.steps ≤ engine.old.steps + 1 }
+    ensures ok { IfOk result (λ refused. Reported (F.files shelf.old) (K.taken sink.old) (K.taken sink.new)
+        (record { state = engine.old.state; misses = F.misses shelf.old }) (spoken_from number (text.now ∷ []))
+        (record { state = engine.new.state; misses = F.misses shelf.new }) refused) }
+    ensures err { IfErr result (λ status. ReportedInPart (F.files shelf.old) (K.taken sink.old) (K.taken sink.new)
+        (record { state = engine.old.state; misses = F.misses shelf.old }) (spoken_from number (text.now ∷ []))
+        (F.misses shelf.new) status) }
     ensures faults { F.faults shelf.old ≤ F.faults shelf.new }
     ensures sink_faults { K.faults sink.old ≤ K.faults sink.new }
     ensures read_cause { result ≡ Err Status.ReadFault → Rose (F.faults shelf.old) (F.faults shelf.new) }
@@ -174,32 +192,32 @@ fn either(a: bool, b: bool) -> bool
     a || b
 }
 
-/// Serves the lines in order, from the first state.
+/// Serves the lines in order, from the first state, and tells whether one was refused.
 pub fn serve_lines<F: Shelf, K: Sink>(
     alloc: Global,
     lines: &[&str],
     shelf: &mut F,
     sink: &mut K,
-) -> Status
+) -> Result<bool, Status>
     requires { length lines.now < 2 ^ 50 }
-    ensures done { result ≡ Status.Done → (end : State) × Reported (F.files shelf.old) (K.taken sink.old) (K.taken sink.new) initial_state (spoken_from 1 (map (λ line. line.now) lines.now)) end false }
-    ensures done_refused { result ≡ Status.DoneRefused → (end : State) × Reported (F.files shelf.old) (K.taken sink.old) (K.taken sink.new) initial_state (spoken_from 1 (map (λ line. line.now) lines.now)) end true }
-    ensures front { IsCutShort result → ReportedInFront (F.files shelf.old) (K.taken sink.old) (K.taken sink.new) initial_state (spoken_from 1 (map (λ line. line.now) lines.now)) }
-    ensures only { IsOfLines result }
     ensures files { F.files shelf.new ≡ F.files shelf.old }
-    ensures read_cause { result ≡ Status.ReadFault → Rose (F.faults shelf.old) (F.faults shelf.new) }
-    ensures write_cause { result ≡ Status.WriteFault → Rose (K.faults sink.old) (K.faults sink.new) }
+    ensures ok { IfOk result (λ refused. (last : Moment) × (last.misses ≤ F.misses shelf.new)
+        × Reported (F.files shelf.old) (K.taken sink.old) (K.taken sink.new)
+        (record { state = initial_state defaults; misses = F.misses shelf.old })
+        (spoken_from 1 (map (λ line. line.now) lines.now)) last refused) }
+    ensures err { IfErr result (λ status. ReportedInPart (F.files shelf.old) (K.taken sink.old) (K.taken sink.new)
+        (record { state = initial_state defaults; misses = F.misses shelf.old })
+        (spoken_from 1 (map (λ line. line.now) lines.now)) (F.misses shelf.new) status) }
+    ensures read_cause { result ≡ Err Status.ReadFault → Rose (F.faults shelf.old) (F.faults shelf.new) }
+    ensures write_cause { result ≡ Err Status.WriteFault → Rose (K.faults sink.old) (K.faults sink.new) }
 {
-    let mut engine = Engine::new(alloc);
+    let mut engine = Engine::new(alloc, default_settings());
     let mut refused = false;
     for (i, line) in lines.iter().enumerate() {
         match serve_line(alloc, &mut engine, i as u64 + 1, line, shelf, sink) {
-            Err(status) => return status,
+            Err(status) => return Err(status),
             Ok(more) => refused = either(refused, more),
         }
     }
-    if refused {
-        return Status::DoneRefused;
-    }
-    Status::Done
+    Ok(refused)
 }

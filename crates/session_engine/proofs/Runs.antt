@@ -1,14 +1,14 @@
 -- The ends of a run, and what the rows of a scan mean.
-use Rattle.std.proofs.Common.{ℕ, ◌≡◌, ◌≤◌, ◌<◌, ◌+◌, ◌==◌, ◌&&◌, ◌∙◌, List, [], ◌∷◌, length, map, nat_le, Bool, true, false, Option, Some, None, Ok, Err, ap, sym, refl, arith, if◌then◌else◌}
+use Rattle.std.proofs.Common.{ℕ, ◌≡◌, ◌≤◌, ◌<◌, ◌+◌, ◌∙◌, List, [], ◌∷◌, length, map, nat_le, true, false, Option, Some, None, Result, Ok, Err, MatchOption, MatchResult, ap, sym, refl, arith}
 use Rattle.std.specs.List.{slice_get}
-use Rattle.std.specs.Option.{option_map_or}
+use Rattle.std.specs.Option.{option_map, option_map_or}
 use Rattle.std.proofs.lemmas.Bool.Decides.{nat_tests}
 use Rattle.std.proofs.lemmas.List.{length-map}
-use Rattle.row_values.specs.Names.{canonical_name}
-use Rattle.row_values.specs.Statements.{Statement, IsSoundQuery, kinds_of, selectivity_count}
+use Rattle.row_values.specs.Statements.{Statement, IsSoundQuery, kinds_of}
 use Rattle.row_values.specs.declared.refusals.Refusal.{Refusal}
 use Rattle.row_values.specs.declared.statement.Place.{Place}
 use Rattle.row_values.specs.declared.values.Value.{Value}
+use Rattle.row_values.proofs.Parameters.{length-kinds_of}
 use Rattle.csv_tables.specs.Tables.{TableValue}
 use Rattle.statement_meaning.specs.Combinations.{kept_combinations}
 use Rattle.statement_meaning.specs.Meaning.{Shown, shown_row, meaning_of}
@@ -17,48 +17,27 @@ use Rattle.statement_meaning.proofs.Plain.{plain_rows_of_one}
 use Rattle.script_report.specs.declared.replies.Execution.{Execution}
 use Rattle.script_report.specs.declared.replies.Reply.{Reply}
 use Rattle.script_report.specs.declared.replies.Reply.TheVariants as reply
-use Rattle.row_values.proofs.Parameters.{length-kinds_of}
-use Rattle.session_model.specs.Faults.{refusal}
-use Rattle.session_model.specs.Running.{args_refusal, is_built, executing_of, with_args, running, running_of, execution_of}
-use Rattle.session_model.specs.State.{State, TableState, StatementState, find_statement, find_table, rows_named, tables_of}
-use Rattle.session_model.specs.Step.{RunStep}
-use Rattle.session_engine.specs.Executed.{Executed}
-
--- Statements that are executed.
-
-and_parts : (a b : Bool) → (a && b) ≡ true → (a ≡ true) × (b ≡ true)
-and_parts true b h = (refl, h)
-and_parts false b h = absurd cc
-
-no_items : {T : Type 0} (xs : List T) → (length xs == 0) ≡ true → xs ≡ []
-no_items [] h = refl
-no_items (x ∷ xs) h = let n : length (x ∷ xs) ≡ 0 = grind (arith, nat_tests) in absurd (omega arith)
-
-pub record Built (q : Statement) : Type 0 where
-  pub one : length q.places ≡ 1
-  pub no_groups : q.groups ≡ []
-  pub no_order : q.order ≡ []
-
-is_one : (n : ℕ) → (n == 1) ≡ true → n ≡ 1
-is_one n h = grind (arith, nat_tests)
-
-pub built : (q : Statement) → is_built q ≡ true → Built q
-built q h =
-    let p = and_parts _ (nat_le (selectivity_count q.preds) 3) h in
-    let r = and_parts _ (length q.order == 0) p.0 in
-    let s = and_parts (length q.places == 1) (length q.groups == 0) r.0 in
-    record { one = is_one (length q.places) s.0; no_groups = no_items q.groups s.1; no_order = no_items q.order r.1 }
+use Rattle.catalog_model.specs.Catalogs.{Catalog, TableState, StatementState, find_table, rows_named}
+use Rattle.catalog_model.specs.Faults.{refusal}
+use Rattle.catalog_model.specs.Instances.{Instance, instance_of}
+use Rattle.session_model.specs.Executions.{is_built, refusal_of_rows, execution_refusal, IsExecution, scan_execution}
+use Rattle.session_model.specs.State.{State}
+use Rattle.session_model.specs.Step.{RunStep, InstanceStep, Refuses, Executes, present_tables}
+use Rattle.session_model.proofs.Executed.{built, shown}
+use Rattle.session_store.specs.Outcomes.{Instantiates}
+use Rattle.session_store.specs.declared.instances.Instance as stored
+use Rattle.session_engine.specs.Executed.{Executed, Ran}
 
 -- Rows.
 
-abbrev shown : List (List Value) → Statement → ℕ → List Shown
-shown rows q row = shown_row (rows ∷ []) q.items ((row ∷ []) ∷ []) (row ∷ [])
+abbrev shown_at : List (List Value) → Statement → ℕ → List Shown
+shown_at rows q row = shown_row (rows ∷ []) q.items ((row ∷ []) ∷ []) (row ∷ [])
 
-means : (q : Statement) (rows : List (List Value)) (args : List Value) (numbers : List ℕ) → is_built q ≡ true → map (λ row. row ∷ []) numbers ≡ kept_combinations q (rows ∷ []) args → meaning_of q (rows ∷ []) args ≡ map (shown rows q) numbers
+means : (q : Statement) (rows : List (List Value)) (args : List Value) (numbers : List ℕ) → is_built q ≡ true → map (λ row. row ∷ []) numbers ≡ kept_combinations q (rows ∷ []) args → meaning_of q (rows ∷ []) args ≡ map (shown_at rows q) numbers
 means q rows args numbers b k = let p = built q b in plain_rows_of_one q (rows ∷ []) args numbers p.no_groups p.no_order k
 
 counted : (q : Statement) (rows : List (List Value)) (args : List Value) (numbers : List ℕ) → is_built q ≡ true → map (λ row. row ∷ []) numbers ≡ kept_combinations q (rows ∷ []) args → length (meaning_of q (rows ∷ []) args) ≡ length numbers
-counted q rows args numbers b k = ap length (means q rows args numbers b k) ∙ length-map numbers (shown rows q)
+counted q rows args numbers b k = ap length (means q rows args numbers b k) ∙ length-map numbers (shown_at rows q)
 
 above : (a b : ℕ) → b < a → nat_le a b ≡ false
 above a b h = grind (arith, nat_tests)
@@ -74,10 +53,14 @@ map_twice f g [] = refl
 map_twice f g (x ∷ xs) = ap (λ (ys : List (List ℕ)). f (g x) ∷ ys) (map_twice f g xs)
 
 pub executed : (number : ℕ) (name : List ℕ) (q : Statement) (rows : List (List Value)) (args : List Value) (numbers : List ℕ) (e : Execution) (lines : List (List ℕ)) → is_built q ≡ true → map (λ row. row ∷ []) numbers ≡ kept_combinations q (rows ∷ []) args → length numbers ≤ 1000000 →
-    e ≡ execution_of number name q (rows ∷ []) args → lines ≡ map (λ row. row_line (shown_row (rows ∷ []) q.items ((row ∷ []) ∷ []) (row ∷ []))) numbers → Executed number name q (rows ∷ []) args (Some (e, lines))
-executed number name q rows args numbers e lines b k few h l =
+    e ≡ scan_execution number name q (rows ∷ []) args → lines ≡ map (λ row. row_line (shown_row (rows ∷ []) q.items ((row ∷ []) ∷ []) (row ∷ []))) numbers → Executed number name q (rows ∷ []) args (Some (e, lines))
+executed number name q rows args numbers e lines b k small h l =
     let n = counted q rows args numbers b k in
-    (within _ 1000000 (omega arith), h, l ∙ (map_twice row_line (shown rows q) numbers ∙ sym (ap (map row_line) (means q rows args numbers b k))))
+    record {
+      few = within _ 1000000 (omega arith);
+      shows = rw h (shown number name q (rows ∷ []) args b);
+      rows = l ∙ (map_twice row_line (shown_at rows q) numbers ∙ sym (ap (map row_line) (means q rows args numbers b k)));
+    }
 
 -- Parameters.
 
@@ -86,45 +69,53 @@ few_kinds q s = omega (arith, length-kinds_of q.places q.preds s.preds, s.few_se
 
 -- Steps.
 
-pub refused_run : (old : State) (name : List ℕ) (args : List Value) (why : Refusal) (answer : Reply) → running_of old.tables old.statements name args ≡ Err why → answer ≡ reply.Refused why → RunStep old name args answer old
+pub refused_run : (old : State) (name : List ℕ) (args : List Value) (why : Refusal) (answer : Reply) → instance_of old.catalog name args ≡ Err why → answer ≡ reply.Refused why → RunStep old name args answer old
 refused_run old name args why answer e says = rw e (record { says = says; unchanged = refl })
 
-pub unknown : (ts : List TableState) (ss : List StatementState) (name : List ℕ) (args : List Value) (shown : List ℕ) → find_statement ss name ≡ None → shown ≡ canonical_name name → running_of ts ss name args ≡ Err (refusal 5 shown)
-unfolding running_of
-unknown ts ss name args shown n e = rw (n, e) refl
+of_instance : (old new : State) (name : List ℕ) (args : List Value) (instance : Instance) (answer : Reply) → instance_of old.catalog name args ≡ Ok instance → InstanceStep old name instance.statement instance.args answer new → RunStep old name args answer new
+of_instance old new name args instance answer e step = rw e step
 
-found : (ts : List TableState) (ss : List StatementState) (name : List ℕ) (args : List Value) (q : Statement) → find_statement ss name ≡ Some q → running_of ts ss name args ≡ with_args (args_refusal (kinds_of q.places q.preds) args) q (length (meaning_of q (tables_of ts q) args))
-unfolding running_of
-found ts ss name args q f = ap (running ts args name) f
+refused_by : (old : State) (o : Option Refusal) (why : Refusal) (answer : Reply) (P : Type 0) → o ≡ Some why → answer ≡ reply.Refused why → MatchOption o P (λ w. Refuses w old answer old)
+refused_by old o why answer P e says = rw e (record { says = says; unchanged = refl })
 
-pub misfit : (ts : List TableState) (ss : List StatementState) (name : List ℕ) (args : List Value) (q : Statement) (why : Refusal) → find_statement ss name ≡ Some q → Some why ≡ args_refusal (kinds_of q.places q.preds) args → running_of ts ss name args ≡ Err why
-misfit ts ss name args q why f a = found ts ss name args q f ∙ ap (λ (r : Option Refusal). with_args r q (length (meaning_of q (tables_of ts q) args))) (sym a)
+unbuilt : (q : Statement) (n : ℕ) → is_built q ≡ false → refusal_of_rows q n ≡ Some (refusal 21 [])
+unbuilt q n b = rw b refl
 
-fitting : (ts : List TableState) (ss : List StatementState) (name : List ℕ) (args : List Value) (q : Statement) → find_statement ss name ≡ Some q → None ≡ args_refusal (kinds_of q.places q.preds) args → running_of ts ss name args ≡ executing_of q (length (meaning_of q (tables_of ts q) args))
-fitting ts ss name args q f a = found ts ss name args q f ∙ ap (λ (r : Option Refusal). with_args r q (length (meaning_of q (tables_of ts q) args))) (sym a)
+large : (q : Statement) (n : ℕ) → is_built q ≡ true → nat_le n 1000000 ≡ false → refusal_of_rows q n ≡ Some (refusal 12 [])
+large q n b e = rw (b, e) refl
 
-pub not_built : (ts : List TableState) (ss : List StatementState) (name : List ℕ) (args : List Value) (q : Statement) → find_statement ss name ≡ Some q → None ≡ args_refusal (kinds_of q.places q.preds) args → is_built q ≡ false → running_of ts ss name args ≡ Err (refusal 21 [])
-not_built ts ss name args q f a b = fitting ts ss name args q f a ∙ unbuilt q (length (meaning_of q (tables_of ts q) args)) b
-  where
-    unbuilt : (p : Statement) (n : ℕ) → is_built p ≡ false → executing_of p n ≡ Err (refusal 21 [])
-    unbuilt p n h = rw h refl
+small : (q : Statement) (n : ℕ) → is_built q ≡ true → nat_le n 1000000 ≡ true → refusal_of_rows q n ≡ None
+small q n b e = rw (b, e) refl
 
-ends : (q : Statement) (n : ℕ) (test : Bool) → is_built q ≡ true → nat_le n 1000000 ≡ test → executing_of q n ≡ (if test then Ok q else Err (refusal 12 []))
-ends q n test b e = rw (b, e) refl
+pub not_built : (old : State) (name : List ℕ) (args : List Value) (instance : Instance) (answer : Reply) → instance_of old.catalog name args ≡ Ok instance → is_built instance.statement ≡ false → answer ≡ reply.Refused (refusal 21 []) →
+    RunStep old name args answer old
+not_built old name args instance answer e b says =
+    of_instance old old name args instance answer e
+    (refused_by old (execution_refusal instance.statement (present_tables old instance.statement) instance.args) (refusal 21 []) answer _ (unbuilt instance.statement _ b) says)
 
-pub too_large : (ts : List TableState) (ss : List StatementState) (name : List ℕ) (args : List Value) (q : Statement) → find_statement ss name ≡ Some q → None ≡ args_refusal (kinds_of q.places q.preds) args → is_built q ≡ true → nat_le (length (meaning_of q (tables_of ts q) args)) 1000000 ≡ false →
-    running_of ts ss name args ≡ Err (refusal 12 [])
-too_large ts ss name args q f a b n = fitting ts ss name args q f a ∙ ends q _ false b n
+pub too_large : (old : State) (name : List ℕ) (args : List Value) (instance : Instance) (answer : Reply) → instance_of old.catalog name args ≡ Ok instance → is_built instance.statement ≡ true →
+    nat_le (length (meaning_of instance.statement (present_tables old instance.statement) instance.args)) 1000000 ≡ false → answer ≡ reply.Refused (refusal 12 []) → RunStep old name args answer old
+too_large old name args instance answer e b n says =
+    of_instance old old name args instance answer e
+    (refused_by old (execution_refusal instance.statement (present_tables old instance.statement) instance.args) (refusal 12 []) answer _ (large instance.statement _ b n) says)
 
-pub runs : (ts : List TableState) (ss : List StatementState) (name : List ℕ) (args : List Value) (q : Statement) → find_statement ss name ≡ Some q → None ≡ args_refusal (kinds_of q.places q.preds) args → is_built q ≡ true → nat_le (length (meaning_of q (tables_of ts q) args)) 1000000 ≡ true →
-    running_of ts ss name args ≡ Ok q
-runs ts ss name args q f a b n = fitting ts ss name args q f a ∙ ends q _ true b n
+executes_by : (o : Option Refusal) (P : Type 0) (Q : Refusal → Type 0) → o ≡ None → P → MatchOption o P Q
+executes_by o P Q e p = rw e p
 
-pub executed_run : (old new : State) (name : List ℕ) (args : List Value) (q : Statement) (e : Execution) (lines : List (List ℕ)) → running_of old.tables old.statements name args ≡ Ok q →
-    e ≡ execution_of (old.executions + 1) name q (tables_of old.tables q) args → lines ≡ map row_line (meaning_of q (tables_of old.tables q) args) → new ≡ record old { executions = old.executions + 1 } → RunStep old name args (reply.Ran e lines) new
-executed_run old new name args q e lines r h l n =
-    let ran : Execution = execution_of (old.executions + 1) name q (tables_of old.tables q) args in
-    rw r (record { says = ap (λ (x : Execution). reply.Ran x lines) h ∙ ap (reply.Ran ran) l; counts = n })
+pub executed_run : (old new : State) (name : List ℕ) (args : List Value) (instance : Instance) (e : Execution) (lines : List (List ℕ)) → instance_of old.catalog name args ≡ Ok instance → is_built instance.statement ≡ true →
+    Ran (old.executions + 1) name instance.statement (present_tables old instance.statement) instance.args e lines → new ≡ record old { executions = old.executions + 1 } → RunStep old name args (reply.Ran e lines) new
+executed_run old new name args instance e lines i b ran n =
+    of_instance old new name args instance (reply.Ran e lines) i
+    (executes_by (execution_refusal instance.statement (present_tables old instance.statement) instance.args) _ _ (small instance.statement _ b ran.few)
+    (record { execution = e; shows = ran.shows; says = ap (reply.Ran e) ran.rows; counts = n }))
+
+-- the instance that the store found, and the statement of its number
+pub same_instance : (wanted : Result Instance Refusal) (catalog : Catalog) (found : stored.Instance) (q : Statement) (args : List Value) → Instantiates wanted catalog args (Ok found) →
+    option_map (λ (s : StatementState). s.statement) (slice_get catalog.statements found.statement) ≡ Some q → wanted ≡ Ok (record { statement = q; args = args })
+same_instance wanted catalog found q args h e =
+    let some : Some h.0 ≡ Some q = sym h.2.1 ∙ e in
+    let same : h.0 ≡ q = cc in
+    h.1 ∙ ap (λ (p : Statement). let i : Instance = record { statement = p; args = args } in Ok i) same
 
 -- the one place's table, as the store tells it
 pub one_table : {A : Type 0} (value : A → TableValue) (ts : List TableState) (places : List Place) (items : List A) (x : A) → length places ≡ 1 → map (λ t. Some (value t)) items ≡ map (λ place. find_table ts place.table) places → slice_get items 0 ≡ Some x →

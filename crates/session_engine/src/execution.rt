@@ -6,7 +6,7 @@ ghost use Rattle.std.specs.Prelude.{◌≡◌, ◌∷◌, [], IfOk, map, true};
 ghost use Rattle.plan_trees.specs.Trees.{top_tree};
 ghost use Rattle.statement_meaning.specs.Meaning.{shown_row};
 ghost use Rattle.statement_meaning.specs.Spelling.{row_line};
-ghost use Rattle.session_model.specs.Running as running;
+ghost use Rattle.session_model.specs.Executions as executions;
 ghost use Rattle.session_engine.specs.Executed.{Executed};
 
 use csv_tables::Table;
@@ -22,7 +22,7 @@ use std::rc::Rc;
 
 /// Whether the statement is of the form that is executed so far.
 pub fn is_built(q: &Query) -> bool
-    ensures { result ≡ running.is_built q.now }
+    ensures { result ≡ executions.is_built q.now }
 {
     q.places().len() == 1
         && q.groups().is_empty()
@@ -32,20 +32,20 @@ pub fn is_built(q: &Query) -> bool
 
 /// The one plan so far: a sequential scan of the one place.
 fn scan_plan(alloc: Global) -> Result<Top, OutOfMemory>
-    ensures { IfOk result (λ top. top_tree top ≡ running.scan_plan) }
+    ensures { IfOk result (λ top. top_tree top ≡ executions.scan_plan) }
 {
     Ok(Top::Rows(Rc::new(alloc, Plan::Base(Access::Seq(0)))?))
 }
 
 /// The cost of the scan.
 fn scan_cost(table: &Table) -> u128
-    ensures { result ≡ running.scan_cost table.now.rows }
+    ensures { result ≡ executions.scan_cost table.now.rows }
 {
     COST_SCALE * (table.len().max(1) as u128)
 }
 
-/// What is told of the execution of this number.
-fn execution(
+/// What is shown of the execution of this number.
+fn describe(
     alloc: Global,
     number: u64,
     name: &Words,
@@ -53,8 +53,8 @@ fn execution(
     table: &Table,
     args: &[Value],
 ) -> Result<Execution, OutOfMemory>
-    requires { running.is_built q.now ≡ true }
-    ensures { IfOk result (λ execution. execution ≡ running.execution_of number name.now q.now (table.now.rows ∷ []) args.now) }
+    requires { executions.is_built q.now ≡ true }
+    ensures { IfOk result (λ execution. execution ≡ executions.scan_execution number name.now q.now (table.now.rows ∷ []) args.now) }
 {
     let plan = scan_plan(alloc)?;
     Ok(Execution {
@@ -68,7 +68,7 @@ fn execution(
 
 /// The row lines of the rows of these numbers.
 fn row_lines(alloc: Global, q: &Query, table: &Table, rows: &[u32]) -> Result<Lines, OutOfMemory>
-    requires { running.is_built q.now ≡ true }
+    requires { executions.is_built q.now ≡ true }
     ensures { IfOk result (λ lines. lines ≡ map (λ row. row_line (shown_row (table.now.rows ∷ []) q.now.items ((row ∷ []) ∷ []) (row ∷ []))) rows.now) }
 {
     let mut lines = Lines::new(alloc);
@@ -87,14 +87,14 @@ pub fn execute(
     table: &Table,
     args: &[Value],
 ) -> Result<Option<(Execution, Lines)>, OutOfMemory>
-    requires { running.is_built q.now ≡ true }
+    requires { executions.is_built q.now ≡ true }
     ensures { IfOk result (Executed number name.now q.now (table.now.rows ∷ []) args.now) }
 {
     let rows = scan(alloc, q, table, args)?;
     if rows.len() > RESULT_LIMIT {
         return Ok(None);
     }
-    let execution = execution(alloc, number, name, q, table, args)?;
+    let execution = describe(alloc, number, name, q, table, args)?;
     let lines = row_lines(alloc, q, table, rows.as_slice())?;
     Ok(Some((execution, lines)))
 }

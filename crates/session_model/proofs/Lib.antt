@@ -1,1 +1,5 @@
+pub mod Chains
+pub mod Executed
 pub mod Progress
+pub mod Sessions
+pub mod WholeFiles

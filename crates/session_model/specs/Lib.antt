@@ -1,7 +1,6 @@
-pub mod Faults
-pub mod Loading
-pub mod Preparing
+pub mod Executions
+pub mod Laws
 pub mod Run
-pub mod Running
+pub mod Session
 pub mod State
 pub mod Step

@@ -7,7 +7,8 @@ use Rattle.script_report.specs.Replies.{reply_text}
 use Rattle.script_report.specs.declared.replies.Reply.{Reply}
 use Rattle.script_report.specs.declared.replies.Reply.TheVariants as reply
 use Rattle.session_model.specs.State.{State, initial_state}
-use Rattle.session_model.specs.Step.{Step, file_for}
+use Rattle.session_model.specs.Step.{Step, file_of}
+use Rattle.session_model.specs.declared.settings.Settings.{Settings}
 
 -- a line and its number in the script
 pub record Line : Type 0 where
@@ -23,19 +24,24 @@ is_silent Bad = false
 abbrev pub spoken_from : ℕ → List (List ℕ) → List Line
 spoken_from number [] = []
 spoken_from number (text ∷ texts) =
-    if is_silent (reading_of text) then spoken_from (number + 1) texts else (record { number = number; text = text }) ∷ spoken_from (number + 1) texts
+    if is_silent (reading_of text) then spoken_from (number + 1) texts else
+    (record { number = number; text = text }) ∷ spoken_from (number + 1) texts
 
 -- the lines of a script that get a reply
 abbrev pub spoken_lines : List ℕ → List Line
 spoken_lines script = spoken_from 1 (lines script)
 
--- these replies to these lines are a run from old to new: one step for each line, in order
-abbrev pub IsRun : Files → State → List Line → List Reply → State → Type 0
-IsRun files old [] [] new = new ≡ old
-IsRun files old (line ∷ lines) (reply ∷ replies) new =
-    (middle : State) × Step old (reading_of line.text) (file_for files (reading_of line.text)) reply middle × IsRun files middle lines replies new
-IsRun files old [] (reply ∷ replies) new = ⊥
-IsRun files old (line ∷ lines) [] new = ⊥
+-- these replies to these lines lead from old to new: for each line one step of this relation, in order
+abbrev pub IsChain : {A : Type 0} → (A → Line → Reply → A → Type 0) → A → List Line → List Reply → A → Type 0
+IsChain Takes old [] [] new = new ≡ old
+IsChain {A = A} Takes old (line ∷ lines) (reply ∷ replies) new =
+    (middle : A) × Takes old line reply middle × IsChain Takes middle lines replies new
+IsChain Takes old [] (reply ∷ replies) new = ⊥
+IsChain Takes old (line ∷ lines) [] new = ⊥
+
+-- the step of a line over these files
+abbrev pub StepOver : Files → State → Line → Reply → State → Type 0
+StepOver files old line reply new = Step old (reading_of line.text) (file_of files (reading_of line.text)) reply new
 
 -- the texts of the replies, one after the other
 abbrev pub report_text : List Line → List Reply → List ℕ
@@ -55,7 +61,7 @@ abbrev pub some_refusal : List Reply → Bool
 some_refusal [] = false
 some_refusal (answer ∷ answers) = if is_refusal answer then true else some_refusal answers
 
--- a run over the whole script, from the first state
-pub record Run (files : Files) (script : List ℕ) (replies : List Reply) : Type 0 where
+-- a run over the whole script, from the first state of these settings
+pub record Run (settings : Settings) (files : Files) (script : List ℕ) (replies : List Reply) : Type 0 where
   pub end : State
-  pub steps : IsRun files initial_state (spoken_lines script) replies end
+  pub steps : IsChain (StepOver files) (initial_state settings) (spoken_lines script) replies end

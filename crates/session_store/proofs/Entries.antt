@@ -10,7 +10,8 @@ use Rattle.indexmap.specs.IndexMap.{insert_entry}
 use Rattle.row_values.specs.Statements.{Statement}
 use Rattle.row_values.specs.declared.statement.Place.{Place}
 use Rattle.csv_tables.specs.Tables.{TableValue}
-use Rattle.session_model.specs.State.{StatementState, find_table, find_statement}
+use Rattle.catalog_model.specs.Catalogs.{StatementState, find_table, find_statement}
+use Rattle.catalog_model.proofs.Names.{new_statement}
 use Rattle.session_store.specs.Kept.{tables_in, statements_in}
 use Rattle.session_store.specs.declared.store.Held.{Held}
 
@@ -46,13 +47,10 @@ value_at (e ∷ es) zero = refl
 value_at (e ∷ es) (suc i) = value_at es i
 
 -- what holds of each statement holds of the one of a number
-pub all_at : (P : Statement → Type 0) (es : List (List ℕ × Statement)) (i : ℕ) (q : Statement) → All (λ e. P e.1) es → option_map (λ (s : StatementState). s.statement) (slice_get (statements_in es) i) ≡ Some q → P q
+pub all_at : (P : Statement → Type 0) (ss : List StatementState) (i : ℕ) (q : Statement) → All (λ prepared. P prepared.statement) ss → option_map (λ (s : StatementState). s.statement) (slice_get ss i) ≡ Some q → P q
 all_at P [] i q a h = absurd cc
-all_at P (e ∷ es) zero q a h = let same : e.1 ≡ q = cc in subst P same (All-head (λ (e : List ℕ × Statement). P e.1) e es a)
-all_at P (e ∷ es) (suc i) q a h = all_at P es i q (All-tail (λ (e : List ℕ × Statement). P e.1) e es a) h
-
-abbrev pub new_statement : List ℕ → Statement → StatementState
-new_statement name q = record { name = name; statement = q }
+all_at P (s ∷ ss) zero q a h = let same : s.statement ≡ q = cc in subst P same (All-head (λ (x : StatementState). P x.statement) s ss a)
+all_at P (s ∷ ss) (suc i) q a h = all_at P ss i q (All-tail (λ (x : StatementState). P x.statement) s ss a) h
 
 statement_behind : (test : Bool) (e : List ℕ × Statement) (es : List (List ℕ × Statement)) (name : List ℕ) (q : Statement) → cond test (Some e.1) (find_statement (statements_in es) name) ≡ None →
     (find_statement (statements_in es) name ≡ None → statements_in (insert_entry bytes_eq es name q) ≡ statements_in es ++ new_statement name q ∷ []) →
@@ -76,13 +74,3 @@ tables_more {A = A} f g items items' x places i place e same there lt so_far =
     let more : take (i + 1) places ≡ take i places ++ place ∷ [] = take_more places i place lt ∙ ap (λ (p : Place). take i places ++ p ∷ []) (sym there) in
     ap (map f) e ∙ (map-append f items (x ∷ []) ∙ (ap (λ (front : List (Option TableValue)). front ++ f x ∷ []) so_far
     ∙ (ap (λ (y : Option TableValue). map g (take i places) ++ y ∷ []) same ∙ (sym (map-append g (take i places) (place ∷ [])) ∙ sym (ap (map g) more)))))
-
-entry_behind : (test : Bool) (e : List ℕ × Statement) (es : List (List ℕ × Statement)) (name : List ℕ) (q : Statement) → cond test (Some e.1) (find_statement (statements_in es) name) ≡ None →
-    (find_statement (statements_in es) name ≡ None → insert_entry bytes_eq es name q ≡ es ++ (name, q) ∷ []) →
-    cond test ((e.0, q) ∷ es) (e ∷ insert_entry bytes_eq es name q) ≡ e ∷ (es ++ (name, q) ∷ [])
-entry_behind true e es name q none step = cc
-entry_behind false e es name q none step = ap (λ (xs : List (List ℕ × Statement)). e ∷ xs) (step none)
-
-pub entry_last : (es : List (List ℕ × Statement)) (name : List ℕ) (q : Statement) → find_statement (statements_in es) name ≡ None → insert_entry bytes_eq es name q ≡ es ++ (name, q) ∷ []
-entry_last [] name q none = refl
-entry_last (e ∷ es) name q none = entry_behind (bytes_eq name e.0) e es name q none (λ (n : find_statement (statements_in es) name ≡ None). entry_last es name q n)

@@ -1,6 +1,6 @@
 //! Why the catalog turns a call down.
 ghost use Rattle.std.specs.Prelude.{◌≡◌};
-ghost use Rattle.session_model.specs.Faults.{refusal};
+ghost use Rattle.catalog_model.specs.Faults.{refusal};
 
 use row_values::{OutOfMemory, Refusal, Words};
 use std::alloc::AllocFailed;

@@ -2,11 +2,12 @@
 //! came.
 //!
 //! Each name stands once. A call that is refused or lacks memory leaves everything as it was: it makes its growths
-//! first. The ways in are `Store::load` and `Store::prepare`; each of their refusals is exact and in its order. It knows
-//! no script line and no reply.
+//! first. The ways in are `Store::load`, `Store::prepare` and `Store::instance`; each of their refusals is exact and in
+//! its order. It knows no script line and no reply.
 #![tactic(auto)]
 
 mod faults;
+mod instances;
 mod loading;
 mod preparing;
 mod store;
@@ -14,5 +15,5 @@ mod store;
 mod tests;
 
 pub use faults::StoreFault;
-pub use loading::is_same_kind;
+pub use instances::Instance;
 pub use store::Store;

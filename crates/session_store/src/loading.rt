@@ -1,27 +1,28 @@
 //! Loading a table: its first version, or a new one in the place of the one before.
-ghost use Rattle.std.specs.Prelude.{◌≡◌, ◌≤◌, ◌<◌, ◌^◌, IfOk, List, false, length, None};
+ghost use Rattle.std.specs.Prelude.{◌≡◌, ◌≤◌, ◌<◌, ◌^◌, [], IfOk, List, false, length, None};
 ghost use Rattle.std.specs.Option.{option_map};
-ghost use Rattle.session_model.specs.Faults.{fault_text as shown_fault};
-ghost use Rattle.session_model.specs.Loading as loading;
-ghost use Rattle.session_model.specs.State as state;
+ghost use Rattle.catalog_model.specs.Catalogs.{TableState, find_table, put_version, next_version};
+ghost use Rattle.catalog_model.specs.Faults.{fault_text as shown_fault};
+ghost use Rattle.catalog_model.specs.Held.{cells_of as cells_in_table};
+ghost use Rattle.catalog_model.specs.Loading as loading;
 ghost use Rattle.session_store.specs.Outcomes.{Loads, Keeps};
 ghost use Rattle.session_store.specs.Kept.{AreTotals};
 
 use crate::faults::{StoreFault, refused};
 use crate::store::{Held, Store};
+use catalog_model::{HELD_BYTE_LIMIT, HELD_CELL_LIMIT, TABLE_LIMIT};
 use csv_tables::{Table, TableFault, read_table};
 use outside_model::FILE_LIMIT;
 use row_values::{
     Column, FILE_TOO_LONG, Kind, NOT_A_TABLE, OutOfMemory, SCHEMA_DIFFERS, STORE_LIMIT, Words,
     canonical_name,
 };
-use session_model::{HELD_BYTE_LIMIT, HELD_CELL_LIMIT, TABLE_LIMIT};
 use std::alloc::Global;
 use std::rc::Rc;
 
 /// The cells of a table.
 fn cells_of(table: &Table) -> usize
-    ensures value { result ≡ state.cells_of table.now }
+    ensures value { result ≡ cells_in_table table.now }
     ensures few { result ≤ 4194304 }
 {
     let rows = table.len();
@@ -80,7 +81,7 @@ struct Totals {
 
 /// Which limit is passed, the first of them.
 fn passed_limit(totals: Totals) -> Option<&'static str>
-    ensures { (tables : List state.TableState) → AreTotals totals tables → option_map (λ limit. limit.now) result ≡ loading.passed_limit tables }
+    ensures { (tables : List TableState) → AreTotals totals tables → option_map (λ limit. limit.now) result ≡ loading.limit_passed_by [] tables }
 {
     if totals.tables > TABLE_LIMIT {
         return Some("tables");
@@ -97,7 +98,7 @@ fn passed_limit(totals: Totals) -> Option<&'static str>
 impl Store {
     /// Whether a table of this name is loaded with other columns than this one's.
     fn has_other_columns(&self, name: &Words, table: &Table) -> bool
-        ensures { result ≡ loading.has_other_columns (state.find_table self.now.tables name.now) table.now }
+        ensures { result ≡ loading.has_other_columns (find_table self.now.tables name.now) table.now }
     {
         match self.tables.get(name) {
             None => false,
@@ -111,7 +112,7 @@ impl Store {
     /// What the tables hold with this one under this name.
     fn totals_with(&self, name: &Words, table: &Table, bytes: usize) -> Totals
         requires { bytes ≤ FILE_LIMIT }
-        ensures { AreTotals result (state.put_table self.now.tables (record { name = name.now; content = table.now; bytes = bytes; version = self.now.versions })) }
+        ensures { AreTotals result (put_version self.now.tables name.now (next_version self.now table.now bytes)) }
     {
         let cells = cells_of(table);
         match self.tables.get(name) {
@@ -131,27 +132,26 @@ impl Store {
     /// Puts the table under its name, in the place of the version before or behind the others.
     fn put(
         &mut self,
-        alloc: Global,
         name: &Words,
         table: Table,
         bytes: usize,
         totals: Totals,
     ) -> Result<(), StoreFault>
-        requires columns { loading.has_other_columns (state.find_table self.old.tables name.now) table ≡ false }
-        requires totals { AreTotals totals (state.put_table self.old.tables (record { name = name.now; content = table; bytes = bytes; version = self.old.versions })) }
-        requires limits { loading.passed_limit (state.put_table self.old.tables (record { name = name.now; content = table; bytes = bytes; version = self.old.versions })) ≡ None }
+        requires columns { loading.has_other_columns (find_table self.old.tables name.now) table ≡ false }
+        requires totals { AreTotals totals (put_version self.old.tables name.now (next_version self.old table bytes)) }
+        requires limits { loading.limit_passed_by [] (put_version self.old.tables name.now (next_version self.old table bytes)) ≡ None }
         requires versions { self.old.versions < 2 ^ 62 }
-        ensures { Keeps self.old (record { name = name.now; content = table; bytes = bytes; version = self.old.versions }) result self.new }
+        ensures { Keeps self.old name.now (next_version self.old table bytes) result self.new }
     {
-        let name = name.copy(alloc)?;
-        let table = Rc::new(alloc, table)?;
-        let version = self.versions;
+        let name = name.copy(self.alloc)?;
+        let table = Rc::new(self.alloc, table)?;
+        let number = self.versions;
         self.tables.insert(
             name,
             Held {
                 table,
                 bytes,
-                version,
+                number,
             },
         )?;
         self.cells = totals.cells;
@@ -161,49 +161,38 @@ impl Store {
     }
 
     /// Keeps a table under this name, unless its columns differ from those of the version before or a limit is passed.
-    fn keep(
-        &mut self,
-        alloc: Global,
-        name: &Words,
-        table: Table,
-        bytes: usize,
-    ) -> Result<(u32, u32), StoreFault>
+    fn keep(&mut self, name: &Words, table: Table, bytes: usize) -> Result<(u32, u32), StoreFault>
         requires bytes { bytes ≤ FILE_LIMIT }
         requires versions { self.old.versions < 2 ^ 62 }
-        ensures { Loads (loading.keeping_of self.old.tables (record { name = name.now; content = table; bytes = bytes; version = self.old.versions })) self.old result self.new }
+        ensures { Loads (loading.keeping_of [] self.old.tables name.now (next_version self.old table bytes)) self.old name.now result self.new }
     {
         if self.has_other_columns(name, &table) {
-            return Err(refused(SCHEMA_DIFFERS, canonical_name(alloc, name.as_str())?));
+            return Err(refused(SCHEMA_DIFFERS, canonical_name(self.alloc, name.as_str())?));
         }
         let totals = self.totals_with(name, &table, bytes);
         if let Some(limit) = passed_limit(totals) {
-            return Err(refused(STORE_LIMIT, Words::of(alloc, limit)?));
+            return Err(refused(STORE_LIMIT, Words::of(self.alloc, limit)?));
         }
         let rows = table.len() as u32;
         let columns = table.schema().columns().len() as u32;
-        self.put(alloc, name, table, bytes, totals)?;
+        self.put(name, table, bytes, totals)?;
         Ok((rows, columns))
     }
 
     /// Loads the table that the file spells under this name, and tells its rows and columns. It is refused where the
     /// file is too long or no table, the columns differ from those of the version before, or a limit is passed.
-    #[tactic(auto, unfolding(session_model::specs::Loading::loading_of))]
-    pub fn load(
-        &mut self,
-        alloc: Global,
-        table: &Words,
-        bytes: &[u8],
-    ) -> Result<(u32, u32), StoreFault>
+    #[tactic(auto, unfolding(catalog_model::specs::Loading::loading_of))]
+    pub fn load(&mut self, table: &Words, bytes: &[u8]) -> Result<(u32, u32), StoreFault>
         requires { self.old.versions < 2 ^ 62 }
-        ensures { Loads (loading.loading_of self.old.tables self.old.versions table.now bytes.now) self.old result self.new }
+        ensures { Loads (loading.loading_of [] self.old table.now bytes.now) self.old table.now result self.new }
     {
         if bytes.len() > FILE_LIMIT {
-            return Err(refused(FILE_TOO_LONG, Words::empty(alloc)));
+            return Err(refused(FILE_TOO_LONG, Words::empty(self.alloc)));
         }
-        match read_table(alloc, bytes) {
+        match read_table(self.alloc, bytes) {
             Err(TableFault::Memory) => Err(StoreFault::Memory),
-            Err(fault) => Err(refused(NOT_A_TABLE, fault_text(alloc, fault)?)),
-            Ok(content) => self.keep(alloc, table, content, bytes.len()),
+            Err(fault) => Err(refused(NOT_A_TABLE, fault_text(self.alloc, fault)?)),
+            Ok(content) => self.keep(table, content, bytes.len()),
         }
     }
 }

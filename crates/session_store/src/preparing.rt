@@ -1,21 +1,20 @@
 //! Preparing a statement: it is bound to the tables that are loaded, and kept under its name.
 ghost use Rattle.std.specs.Prelude.{◌≡◌, ◌≢◌};
 ghost use Rattle.name_binder.specs.Binding.{binding_of};
-ghost use Rattle.session_model.specs.Faults as faults;
-ghost use Rattle.session_model.specs.Preparing.{preparing_of};
-ghost use Rattle.session_model.specs.State.{catalog_of};
+ghost use Rattle.catalog_model.specs.Catalogs.{schemas_of};
+ghost use Rattle.catalog_model.specs.Faults as faults;
+ghost use Rattle.catalog_model.specs.Preparing.{preparing_of};
 ghost use Rattle.session_store.specs.Outcomes.{Binds, Prepares};
 
 use crate::faults::{StoreFault, refused};
 use crate::store::Store;
+use catalog_model::STATEMENT_LIMIT;
 use name_binder::{BindFault, bind};
 use row_values::{
     AMBIGUOUS, MISFIT, NAME_TAKEN, NOT_GROUPED, Query, STORE_LIMIT, TOO_MANY, UNKNOWN_COLUMN,
     UNKNOWN_TABLE, Words, canonical_name,
 };
-use session_model::STATEMENT_LIMIT;
 use sql_parser::Select;
-use std::alloc::Global;
 
 /// The refusal of a statement that can't be bound.
 fn bind_refusal(fault: BindFault) -> StoreFault
@@ -37,10 +36,10 @@ fn bind_refusal(fault: BindFault) -> StoreFault
 
 impl Store {
     /// The statement over the tables that are loaded.
-    fn bound(&self, alloc: Global, select: &Select) -> Result<Query, StoreFault>
-        ensures { Binds (binding_of (catalog_of self.now.tables) select.now) result }
+    fn bound(&self, select: &Select) -> Result<Query, StoreFault>
+        ensures { Binds (binding_of (schemas_of self.now.tables) select.now) result }
     {
-        match bind(alloc, select, self) {
+        match bind(self.alloc, select, self) {
             Ok(q) => Ok(q),
             Err(fault) => Err(bind_refusal(fault)),
         }
@@ -48,27 +47,22 @@ impl Store {
 
     /// Keeps the statement under this name, and tells its number, from 0. It is refused where the name is taken, the
     /// statement can't be bound, or there are too many.
-    #[tactic(auto, unfolding(session_model::specs::Preparing::preparing_of))]
-    pub fn prepare(
-        &mut self,
-        alloc: Global,
-        name: &Words,
-        select: &Select,
-    ) -> Result<u32, StoreFault>
-        ensures { Prepares (preparing_of self.old.tables self.old.statements name.now select.now) self.old name.now result self.new }
+    #[tactic(auto, unfolding(catalog_model::specs::Preparing::preparing_of))]
+    pub fn prepare(&mut self, name: &Words, select: &Select) -> Result<u32, StoreFault>
+        ensures { Prepares (preparing_of self.old name.now select.now) self.old name.now result self.new }
     {
         if self.statements.contains_key(name) {
-            return Err(refused(NAME_TAKEN, canonical_name(alloc, name.as_str())?));
+            return Err(refused(NAME_TAKEN, canonical_name(self.alloc, name.as_str())?));
         }
-        let q = match self.bound(alloc, select) {
+        let q = match self.bound(select) {
             Ok(q) => q,
             Err(fault) => return Err(fault),
         };
         let number = self.statements.len();
         if number >= STATEMENT_LIMIT {
-            return Err(refused(STORE_LIMIT, Words::of(alloc, "statements")?));
+            return Err(refused(STORE_LIMIT, Words::of(self.alloc, "statements")?));
         }
-        self.statements.insert(name.copy(alloc)?, q)?;
+        self.statements.insert(name.copy(self.alloc)?, q)?;
         Ok(number as u32)
     }
 }

@@ -2,8 +2,9 @@
 ghost use Rattle.std.specs.Prelude.{◌≡◌, ◌<◌, [], length, map, slice_get, IfOk, IfSome, IfNone, All, Some, None, ℕ};
 ghost use Rattle.std.specs.Option.{option_map};
 ghost use Rattle.row_values.specs.Statements.{Statement as Bound};
-ghost use Rattle.session_model.specs.State.{catalog_of, find_statement, find_table};
-ghost use Rattle.session_store.specs.Kept.{IsLoaded, reads_table};
+ghost use Rattle.catalog_model.specs.Catalogs.{empty_catalog, find_statement, find_table};
+ghost use Rattle.catalog_model.specs.Sound.{IsCatalog, IsLoaded};
+ghost use Rattle.session_store.specs.Kept.{reads_table};
 
 use csv_tables::Table;
 use indexmap::IndexMap;
@@ -18,12 +19,13 @@ use std::rc::Rc;
 pub struct Held {
     pub(crate) table: Rc<Table>,
     pub(crate) bytes: usize,
-    pub(crate) version: u64,
+    pub(crate) number: u64,
 }
 
-/// The tables and statements of a session; contracts see the two lists, and the next version's number.
+/// The tables and statements of a session; contracts see a catalog, which is sound.
 #[derive(Drop)]
 pub struct Store {
+    pub(crate) alloc: Global,
     pub(crate) tables: IndexMap<Words, Held>,
     pub(crate) statements: IndexMap<Words, Query>,
     pub(crate) cells: usize,
@@ -32,19 +34,20 @@ pub struct Store {
 }
 
 impl Model for Store {
-    ghost use Rattle.session_store.specs.Kept.{Kept, tables_in, statements_in, IsKept};
+    ghost use Rattle.catalog_model.specs.Catalogs.{Catalog};
+    ghost use Rattle.session_store.specs.Kept.{catalog_in, IsKept};
 
-    ghost Value = { Kept };
+    ghost Value = { Catalog };
 
-    ghost view = { λ s. record { tables = tables_in s.tables.entries; statements = statements_in s.statements.entries; versions = s.versions } };
+    ghost view = { λ s. catalog_in s.tables.entries s.statements.entries s.versions };
 
-    ghost invariant = { λ s. IsKept s.tables.entries s.statements.entries s.cells s.bytes };
+    ghost invariant = { λ s. IsKept (catalog_in s.tables.entries s.statements.entries s.versions) s.cells s.bytes };
 }
 
 impl Schemas for Store {
-    ghost use Rattle.session_model.specs.State.{catalog_of};
+    ghost use Rattle.catalog_model.specs.Catalogs.{schemas_of};
 
-    ghost tables = { λ s. catalog_of s.tables };
+    ghost tables = { λ s. schemas_of s.tables };
 
     fn schema(&self, table: &str) -> Option<&Schema> {
         for (name, held) in self.tables.iter() {
@@ -59,11 +62,10 @@ impl Schemas for Store {
 impl Store {
     /// Nothing is kept yet. It takes no memory.
     pub fn new(alloc: Global) -> Store
-        ensures tables { result.tables ≡ [] }
-        ensures statements { result.statements ≡ [] }
-        ensures versions { result.versions ≡ 0 }
+        ensures { result ≡ empty_catalog }
     {
         Store {
+            alloc,
             tables: IndexMap::new(alloc),
             statements: IndexMap::new(alloc),
             cells: 0,
@@ -112,15 +114,11 @@ impl Store {
     }
 
     /// The present table of each of these places, in their order.
-    fn tables_of_places(
-        &self,
-        alloc: Global,
-        places: &[Place],
-    ) -> Result<Vec<Rc<Table>>, OutOfMemory>
+    fn tables_of_places(&self, places: &[Place]) -> Result<Vec<Rc<Table>>, OutOfMemory>
         requires { All (IsLoaded self.now.tables) places.now }
         ensures { IfOk result (λ tables. map (λ table. Some table.value) tables.items ≡ map (λ place. find_table self.now.tables place.table) places.now) }
     {
-        let mut tables = Vec::new(alloc);
+        let mut tables = Vec::new(self.alloc);
         for place in places {
             match self.tables.get(&place.table) {
                 Some(held) => tables.push(held.table.clone()?)?,
@@ -131,11 +129,11 @@ impl Store {
     }
 
     /// The present table of each place of the statement of this number, in FROM order.
-    pub fn tables_of(&self, alloc: Global, statement: u32) -> Result<Vec<Rc<Table>>, OutOfMemory>
+    pub fn tables_of(&self, statement: u32) -> Result<Vec<Rc<Table>>, OutOfMemory>
         requires { statement < length self.now.statements }
         ensures { IfOk result (λ tables. (q : Bound) → option_map (λ s. s.statement) (slice_get self.now.statements statement) ≡ Some q → map (λ table. Some table.value) tables.items ≡ map (λ place. find_table self.now.tables place.table) q.places) }
     {
-        let tables = self.tables_of_places(alloc, self.query(statement).places())?;
+        let tables = self.tables_of_places(self.query(statement).places())?;
         Ok(tables)
     }
 }

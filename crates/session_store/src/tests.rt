@@ -13,7 +13,7 @@ fn loads(alloc: Global, store: &mut Store, text: &str, want: u32) -> Result<bool
     ensures { store.new.versions ≤ store.old.versions + 1 }
 {
     let name = Words::of(alloc, "t")?;
-    match store.load(alloc, &name, text.as_bytes()) {
+    match store.load(&name, text.as_bytes()) {
         Ok((rows, _)) => Ok(rows == want),
         Err(_) => Ok(false),
     }
@@ -25,7 +25,7 @@ fn refuses(alloc: Global, store: &mut Store, text: &str, want: u8) -> Result<boo
     ensures { store.new.versions ≤ store.old.versions + 1 }
 {
     let name = Words::of(alloc, "t")?;
-    match store.load(alloc, &name, text.as_bytes()) {
+    match store.load(&name, text.as_bytes()) {
         Err(StoreFault::Refused(why)) => Ok(why.code == want),
         _ => Ok(false),
     }
@@ -35,7 +35,7 @@ fn refuses(alloc: Global, store: &mut Store, text: &str, want: u8) -> Result<boo
 fn prepares(alloc: Global, store: &mut Store, text: &str, want: u32) -> Result<bool, Fail> {
     let name = Words::of(alloc, "q")?;
     let select = parse(alloc, text).ok().ok_or("no statement")?;
-    match store.prepare(alloc, &name, &select) {
+    match store.prepare(&name, &select) {
         Ok(number) => Ok(number == want),
         Err(_) => Ok(false),
     }
@@ -51,7 +51,7 @@ fn tells(alloc: Global, store: &Store, places: usize, rows: usize) -> Result<boo
     let told = store.query(statement).places().len() == places
         && store.reads(statement, &t)
         && !store.reads(statement, &q);
-    let tables = store.tables_of(alloc, statement)?;
+    let tables = store.tables_of(statement)?;
     Ok(told && tables.len() == places && tables.iter().all(|table| table.len() == rows))
 }
 

@@ -1,25 +1,32 @@
-use Rattle.std.proofs.Common.{◌∙◌, ap, sym, length, ◌<◌, ◌≡◌, arith}
+use Rattle.std.proofs.Common.{◌∙◌, ap, sym, length, ◌<◌, ◌≤◌, ◌≡◌, arith}
 use Rattle.std.specs.List.{slice_get}
 use Rattle.std.specs.Option.{option_map}
-use Rattle.session_model.specs.State.{StatementState, find_statement}
-use Rattle.session_store.specs.Kept.{Kept}
+use Rattle.catalog_model.specs.Catalogs.{Catalog, StatementState, find_statement}
+use Rattle.session_store.specs.Kept.{statements_in}
 use Rattle.session_store.proofs.Entries.{found_statement, statement_at, value_at, none_of, length-statements_in}
 use Rattle.session_store.proofs.store.Store.find.Goals as goal
 
+pub overflow_cast-result : goal.overflow_cast-result
+overflow_cast-result c =
+    let l = length-statements_in c.self.inside.statements.entries in
+    let few : length (statements_in c.self.inside.statements.entries) ≤ 256 = c.self.invariant.sound.few_statements in
+    let w : c.in-Some.number < length c.self.inside.statements.entries = c.in-Some.ensures.within in
+    omega arith
+
 pub returns-in-None-clause-none : goal.returns-in-None-clause-none
 returns-in-None-clause-none c =
-    sym (ap (λ (k : Kept). find_statement k.statements c.args.name.now) c.self.view_is)
+    sym (ap (λ (k : Catalog). find_statement k.statements c.args.name.now) c.self.view_is)
     ∙ (sym (found_statement c.self.inside.statements.entries c.args.name.now) ∙ none_of _ c.in-None.ensures.found)
 
 pub returns-in-Some-clause-found : goal.returns-in-Some-clause-found
 returns-in-Some-clause-found c =
-    sym (ap (λ (k : Kept). option_map (λ (s : StatementState). s.statement) (slice_get k.statements c.in-Some.number)) c.self.view_is)
+    sym (ap (λ (k : Catalog). option_map (λ (s : StatementState). s.statement) (slice_get k.statements c.in-Some.number)) c.self.view_is)
     ∙ (statement_at c.self.inside.statements.entries c.in-Some.number ∙ (sym (value_at c.self.inside.statements.entries c.in-Some.number)
-    ∙ (c.in-Some.ensures.value ∙ (found_statement c.self.inside.statements.entries c.args.name.now ∙ ap (λ (k : Kept). find_statement k.statements c.args.name.now) c.self.view_is))))
+    ∙ (c.in-Some.ensures.value ∙ (found_statement c.self.inside.statements.entries c.args.name.now ∙ ap (λ (k : Catalog). find_statement k.statements c.args.name.now) c.self.view_is))))
 
 pub returns-in-Some-clause-within : goal.returns-in-Some-clause-within
 returns-in-Some-clause-within c =
     let l : length c.self.inside.statements.entries ≡ length c.args.self.now.statements =
-    sym (length-statements_in c.self.inside.statements.entries) ∙ ap (λ (k : Kept). length k.statements) c.self.view_is in
+    sym (length-statements_in c.self.inside.statements.entries) ∙ ap (λ (k : Catalog). length k.statements) c.self.view_is in
     let w : c.in-Some.number < length c.self.inside.statements.entries = c.in-Some.ensures.within in
     omega arith

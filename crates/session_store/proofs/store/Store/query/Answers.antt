@@ -2,15 +2,16 @@ use Rattle.std.proofs.Common.{◌∙◌, ap, sym, length, ◌<◌, ◌≡◌, ar
 use Rattle.std.specs.List.{slice_get}
 use Rattle.std.specs.Option.{option_map}
 use Rattle.row_values.specs.Statements.{Statement}
-use Rattle.session_model.specs.State.{TableState, StatementState}
-use Rattle.session_store.specs.Kept.{Kept, tables_in, statements_in, IsLoaded}
+use Rattle.catalog_model.specs.Catalogs.{Catalog, TableState, StatementState}
+use Rattle.catalog_model.specs.Sound.{IsLoaded}
+use Rattle.session_store.specs.Kept.{tables_in, statements_in}
 use Rattle.session_store.proofs.Entries.{all_at, statement_at, length-statements_in}
 use Rattle.session_store.proofs.store.Store.query.Goals as goal
 
 pub unreachable-requires : goal.unreachable-requires
 unreachable-requires c =
     let l : length c.self.inside.statements.entries ≡ length c.args.self.now.statements =
-    sym (length-statements_in c.self.inside.statements.entries) ∙ ap (λ (k : Kept). length k.statements) c.self.view_is in
+    sym (length-statements_in c.self.inside.statements.entries) ∙ ap (λ (k : Catalog). length k.statements) c.self.view_is in
     let e : length c.as_slice.result ≡ length c.self.inside.statements.entries = ap length c.as_slice.ensures.entries in
     let r : c.args.statement < length c.args.self.now.statements = c.requires in
     let w : c.args.statement < length c.as_slice.result = omega arith in
@@ -19,7 +20,7 @@ unreachable-requires c =
 
 pub returns-clause-value : goal.returns-clause-value
 returns-clause-value c =
-    sym (ap (λ (k : Kept). option_map (λ (s : StatementState). s.statement) (slice_get k.statements c.args.statement)) c.self.view_is)
+    sym (ap (λ (k : Catalog). option_map (λ (s : StatementState). s.statement) (slice_get k.statements c.args.statement)) c.self.view_is)
     ∙ (statement_at c.self.inside.statements.entries c.args.statement
     ∙ ap (option_map (λ (e : List ℕ × Statement). e.1)) (sym (c.in-Some.ensures.entry ∙ ap (λ (es : List (List ℕ × Statement)). slice_get es c.args.statement) c.as_slice.ensures.entries)))
 
@@ -28,5 +29,5 @@ returns-clause-loaded c =
     let found : option_map (λ (s : StatementState). s.statement) (slice_get (statements_in c.self.inside.statements.entries) c.args.statement) ≡ Some c.in-Some.q.now =
     statement_at c.self.inside.statements.entries c.args.statement
     ∙ ap (option_map (λ (e : List ℕ × Statement). e.1)) (sym (c.in-Some.ensures.entry ∙ ap (λ (es : List (List ℕ × Statement)). slice_get es c.args.statement) c.as_slice.ensures.entries)) in
-    subst (λ (ts : List TableState). All (IsLoaded ts) c.in-Some.q.now.places) (ap (λ (k : Kept). k.tables) c.self.view_is)
-    (all_at (λ q. All (IsLoaded (tables_in c.self.inside.tables.entries)) q.places) c.self.inside.statements.entries c.args.statement c.in-Some.q.now c.self.invariant.loaded found)
+    subst (λ (ts : List TableState). All (IsLoaded ts) c.in-Some.q.now.places) (ap (λ (k : Catalog). k.tables) c.self.view_is)
+    (all_at (λ q. All (IsLoaded (tables_in c.self.inside.tables.entries)) q.places) (statements_in c.self.inside.statements.entries) c.args.statement c.in-Some.q.now c.self.invariant.sound.loaded found)

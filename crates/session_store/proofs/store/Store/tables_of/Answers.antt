@@ -1,6 +1,6 @@
 use Rattle.std.proofs.Common.{sym, All, subst, List}
 use Rattle.row_values.specs.declared.statement.Place.{Place}
-use Rattle.session_store.specs.Kept.{IsLoaded}
+use Rattle.catalog_model.specs.Sound.{IsLoaded}
 use Rattle.session_store.proofs.store.Store.tables_of.Goals as goal
 
 pub tables_of_places-requires : goal.tables_of_places-requires

@@ -1,5 +1,5 @@
 use Rattle.std.proofs.Common.{◌≡◌, map, Some, take}
-use Rattle.session_model.specs.State.{find_table}
+use Rattle.catalog_model.specs.Catalogs.{find_table}
 use Rattle.session_store.proofs.store.Store.tables_of_places.Given as goal
 
 -- the tables of the places so far

@@ -1,0 +1,36 @@
+-- What an engine is: a session, and counts.
+use Rattle.std.specs.Prelude.{ℕ, ◌+◌, ◌*◌, ◌^◌, ◌≤◌, ◌<◌, Bool, true, false}
+use Rattle.script_report.specs.declared.replies.Reply.{Reply}
+use Rattle.script_report.specs.declared.replies.Reply.TheVariants.{Loaded, Prepared, Ran, Refused, Spent}
+use Rattle.session_model.specs.State.{State}
+
+-- the session's state, the steps so far, the calls of a planner, and whether memory was short
+pub record EngineState : Type 0 where
+  pub state : State
+  pub steps : ℕ
+  pub optimised : ℕ
+  pub spent : Bool
+
+-- no count passes 4,096 times the steps, which are few enough for all counts to fit
+pub record IsCounted (state : State) (steps : ℕ) : Type 0 where
+  pub executions : state.executions ≤ 4096 * steps
+  pub versions : state.catalog.versions ≤ 4096 * steps
+  pub few_steps : steps ≤ 2 ^ 50
+
+-- there is room for one more of each count
+pub record HasRoom (state : State) : Type 0 where
+  pub executions : state.executions < 2 ^ 62
+  pub versions : state.catalog.versions < 2 ^ 62
+
+-- a command raises each count by one at most
+pub record CountsOn (old new : State) : Type 0 where
+  pub executions : new.executions ≤ old.executions + 1
+  pub versions : new.catalog.versions ≤ old.catalog.versions + 1
+
+-- memory was short
+abbrev pub is_spent : Reply → Bool
+is_spent Spent = true
+is_spent (Loaded table rows columns) = false
+is_spent (Prepared name tables predicates parameters) = false
+is_spent (Ran execution rows) = false
+is_spent (Refused refusal) = false
