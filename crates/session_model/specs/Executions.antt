@@ -13,7 +13,8 @@ use Rattle.statement_meaning.specs.Meaning.{meaning_of}
 use Rattle.statement_meaning.specs.Vectors.{vector_of}
 use Rattle.script_report.specs.declared.replies.Execution.{Execution}
 use Rattle.catalog_model.specs.Faults.{refusal}
-use Rattle.session_model.specs.declared.TheConstants.{COST_SCALE, RESULT_LIMIT, SELECTIVITIES_BUILT}
+use Rattle.plan_trees.specs.declared.scale.TheConstants.{COST_SCALE}
+use Rattle.session_model.specs.declared.TheConstants.{RESULT_LIMIT, SELECTIVITIES_BUILT}
 
 -- a statement of one place without groups and order, and with few parameterised predicates: what is executed so far
 abbrev pub is_built : Statement → Bool
