@@ -1,5 +1,5 @@
 -- A catalog stays sound as a statement is prepared.
-use Rattle.std.proofs.Common.{ℕ, ◌≡◌, ◌≤◌, ◌<◌, ◌∙◌, List, [], ◌∷◌, ◌++◌, length, nat_lt, is_some, Bool, true, false, Option, Some, None, Result, Ok, Err, All, sym, refl, arith, subst, cond, length-append}
+use Rattle.std.proofs.Common.{ℕ, ◌≡◌, ◌≤◌, ◌<◌, List, [], ◌∷◌, ◌++◌, length, nat_lt, is_some, Bool, true, false, Option, Some, None, Result, Ok, Err, All, refl, arith, cond, length-append}
 use Rattle.std.proofs.lemmas.Bool.Decides.{nat_tests}
 use Rattle.std.proofs.lemmas.List.Elements.{All-push}
 use Rattle.row_values.specs.Statements.{Statement}
@@ -7,7 +7,7 @@ use Rattle.row_values.specs.declared.refusals.Refusal.{Refusal}
 use Rattle.sql_parser.specs.Statement.{Parts}
 use Rattle.name_binder.specs.Binding.{binding_of}
 use Rattle.name_binder.specs.declared.faults.BindFault.{BindFault}
-use Rattle.catalog_model.specs.Catalogs.{Catalog, TableState, StatementState, Version, find_statement, schemas_of, with_statement}
+use Rattle.catalog_model.specs.Catalogs.{Catalog, StatementState, Version, find_statement, schemas_of, with_statement}
 use Rattle.catalog_model.specs.Preparing.{preparing_of, bound}
 use Rattle.catalog_model.specs.Sound.{IsCatalog, IsLoaded}
 use Rattle.catalog_model.proofs.Bindings.{bound_loaded}
@@ -27,20 +27,23 @@ pub record Kept (catalog : Catalog) (name : List ℕ) (select : Parts) (q : Stat
   pub room : length catalog.statements < 256
 
 -- a bound statement of a free name, where there is room for it
-pub kept : (held : List Version) (catalog : Catalog) (name : List ℕ) (select : Parts) (q : Statement) → IsCatalog held catalog → Kept catalog name select q → IsCatalog held (with_statement catalog name q)
+pub kept : (held : List Version) (catalog : Catalog) (name : List ℕ) (select : Parts) (q : Statement)
+    → IsCatalog held catalog → Kept catalog name select q → IsCatalog held (with_statement catalog name q)
 kept held catalog name select q sound k = record {
   table_names = sound.table_names;
   statement_names = differ_behind catalog.statements name q k.free sound.statement_names;
   version_numbers = sound.version_numbers;
   numbered = sound.numbered;
-  loaded = All-push (λ (prepared : StatementState). All (IsLoaded catalog.tables) prepared.statement.places) catalog.statements (new_statement name q) sound.loaded (bound_loaded catalog.tables select q k.binding);
+  loaded = All-push (λ (prepared : StatementState). All (IsLoaded catalog.tables) prepared.statement.places)
+      catalog.statements (new_statement name q) sound.loaded (bound_loaded catalog.tables select q k.binding);
   few_tables = sound.few_tables;
   few_statements = longer catalog.statements (new_statement name q) k.room;
   few_cells = sound.few_cells;
   few_bytes = sound.few_bytes;
 }
 
-ok_free : (test : Bool) (why : Refusal) (q : Statement) (rest : Result Statement Refusal) → cond test (Err why) rest ≡ Ok q → (test ≡ false) × (rest ≡ Ok q)
+ok_free : (test : Bool) (why : Refusal) (q : Statement) (rest : Result Statement Refusal)
+    → cond test (Err why) rest ≡ Ok q → (test ≡ false) × (rest ≡ Ok q)
 ok_free true why q rest h = absurd cc
 ok_free false why q rest h = (refl, h)
 
@@ -51,11 +54,13 @@ ok_room false why p q h = absurd cc
 below : (a b : ℕ) → nat_lt a b ≡ true → a < b
 below a b h = grind (arith, nat_tests)
 
-ok_bound : (ss : List StatementState) (binding : Result Statement BindFault) (q : Statement) → bound ss binding ≡ Ok q → (binding ≡ Ok q) × (length ss < 256)
+ok_bound : (ss : List StatementState) (binding : Result Statement BindFault) (q : Statement) → bound ss binding ≡ Ok q
+    → (binding ≡ Ok q) × (length ss < 256)
 ok_bound ss (Err fault) q h = absurd cc
 ok_bound ss (Ok p) q h = let r = ok_room (nat_lt (length ss) 256) _ p q h in (cc, below (length ss) 256 r.0)
 
-pub prepared : (held : List Version) (catalog : Catalog) (name : List ℕ) (select : Parts) (q : Statement) → IsCatalog held catalog → preparing_of catalog name select ≡ Ok q → IsCatalog held (with_statement catalog name q)
+pub prepared : (held : List Version) (catalog : Catalog) (name : List ℕ) (select : Parts) (q : Statement)
+    → IsCatalog held catalog → preparing_of catalog name select ≡ Ok q → IsCatalog held (with_statement catalog name q)
 unfolding preparing_of
 prepared held catalog name select q sound h =
     let f = ok_free (is_some (find_statement catalog.statements name)) _ q _ h in

@@ -1,5 +1,5 @@
 -- The numbers of versions as one is put, and what versions hold whose numbers differ.
-use Rattle.std.proofs.Common.{ℕ, ◌≡◌, ◌≤◌, ◌<◌, ◌∙◌, ◌+◌, ◌==◌, ◌&&◌, ◌||◌, not, List, [], ◌∷◌, length, ap, sym, refl, cond, Bool, true, false, All, arith, subst}
+use Rattle.std.proofs.Common.{ℕ, ◌≡◌, ◌<◌, ◌+◌, ◌==◌, ◌&&◌, ◌||◌, not, List, [], ◌∷◌, ap, refl, cond, Bool, true, false, All, arith}
 use Rattle.std.specs.Str.{bytes_eq}
 use Rattle.std.proofs.lemmas.Bool.Decides.{nat_tests}
 use Rattle.std.proofs.lemmas.List.Elements.{All-cons, All-nil, All-head, All-tail, All-weaker}
@@ -14,13 +14,15 @@ abbrev renewed : TableState → Version → TableState
 renewed t version = record t { now = version }
 
 -- versions whose numbers differ are each there once
-once_by : (test : Bool) (v : Version) (vs : List Version) → test ≡ false → each_once vs ≡ vs → cond test (each_once vs) (v ∷ each_once vs) ≡ v ∷ vs
+once_by : (test : Bool) (v : Version) (vs : List Version) → test ≡ false → each_once vs ≡ vs
+    → cond test (each_once vs) (v ∷ each_once vs) ≡ v ∷ vs
 once_by true v vs e later = absurd cc
 once_by false v vs e later = ap (λ (rest : List Version). v ∷ rest) later
 
 pub once : (vs : List Version) → numbers_differ vs ≡ true → each_once vs ≡ vs
 once [] h = refl
-once (v ∷ vs) h = let p = and_parts (not (has_number v.number vs)) (numbers_differ vs) h in once_by (has_number v.number vs) v vs (not_true _ p.0) (once vs p.1)
+once (v ∷ vs) h = let p = and_parts (not (has_number v.number vs)) (numbers_differ vs) h in
+    once_by (has_number v.number vs) v vs (not_true _ p.0) (once vs p.1)
 
 pub cells_once : (vs : List Version) → numbers_differ vs ≡ true → cells_held vs ≡ cells_in vs
 cells_once vs h = ap cells_in (once vs h)
@@ -36,18 +38,31 @@ fresh (t ∷ ts) next a =
     let differs : (t.now.number == next) ≡ false = grind (arith, nat_tests) in
     or_join (t.now.number == next) _ differs (fresh ts next (All-tail (IsBefore next) t ts a))
 
-other_by : (test : Bool) (t : TableState) (ts : List TableState) (name : List ℕ) (version : Version) (number : ℕ) → (version.number == number) ≡ false → ((t.now.number == number) || has_number number (present_versions ts)) ≡ false →
-    (has_number number (present_versions ts) ≡ false → has_number number (present_versions (put_version ts name version)) ≡ false) →
+other_by : (test : Bool) (t : TableState) (ts : List TableState) (name : List ℕ) (version : Version) (number : ℕ)
+    → (version.number == number) ≡ false
+    → ((t.now.number == number) || has_number number (present_versions ts)) ≡ false →
+    (has_number number (present_versions ts) ≡ false
+        → has_number number (present_versions (put_version ts name version)) ≡ false) →
     has_number number (present_versions (cond test (renewed t version ∷ ts) (t ∷ put_version ts name version))) ≡ false
-other_by true t ts name version number o h later = let p = or_parts (t.now.number == number) (has_number number (present_versions ts)) h in or_join (version.number == number) _ o p.1
-other_by false t ts name version number o h later = let p = or_parts (t.now.number == number) (has_number number (present_versions ts)) h in or_join (t.now.number == number) _ p.0 (later p.1)
+other_by true t ts name version number o h later = let p =
+    or_parts (t.now.number == number) (has_number number (present_versions ts)) h in
+    or_join (version.number == number) _ o p.1
+other_by false t ts name version number o h later = let p =
+    or_parts (t.now.number == number) (has_number number (present_versions ts)) h in
+    or_join (t.now.number == number) _ p.0 (later p.1)
 
-other_put : (ts : List TableState) (name : List ℕ) (version : Version) (number : ℕ) → (version.number == number) ≡ false → has_number number (present_versions ts) ≡ false → has_number number (present_versions (put_version ts name version)) ≡ false
+other_put : (ts : List TableState) (name : List ℕ) (version : Version) (number : ℕ) → (version.number == number) ≡ false
+    → has_number number (present_versions ts) ≡ false
+    → has_number number (present_versions (put_version ts name version)) ≡ false
 other_put [] name version number o h = or_join (version.number == number) _ o h
-other_put (t ∷ ts) name version number o h = other_by (bytes_eq name t.name) t ts name version number o h (other_put ts name version number o)
+other_put (t ∷ ts) name version number o h =
+    other_by (bytes_eq name t.name) t ts name version number o h (other_put ts name version number o)
 
-numbers_by : (test : Bool) (t : TableState) (ts : List TableState) (name : List ℕ) (version : Version) → All (IsBefore version.number) (t ∷ ts) → (not (has_number t.now.number (present_versions ts)) && numbers_differ (present_versions ts)) ≡ true →
-    (All (IsBefore version.number) ts → numbers_differ (present_versions ts) ≡ true → numbers_differ (present_versions (put_version ts name version)) ≡ true) →
+numbers_by : (test : Bool) (t : TableState) (ts : List TableState) (name : List ℕ) (version : Version)
+    → All (IsBefore version.number) (t ∷ ts)
+    → (not (has_number t.now.number (present_versions ts)) && numbers_differ (present_versions ts)) ≡ true →
+    (All (IsBefore version.number) ts → numbers_differ (present_versions ts) ≡ true
+        → numbers_differ (present_versions (put_version ts name version)) ≡ true) →
     numbers_differ (present_versions (cond test (renewed t version ∷ ts) (t ∷ put_version ts name version))) ≡ true
 numbers_by true t ts name version a h later =
     let p = and_parts (not (has_number t.now.number (present_versions ts))) (numbers_differ (present_versions ts)) h in
@@ -56,24 +71,37 @@ numbers_by false t ts name version a h later =
     let p = and_parts (not (has_number t.now.number (present_versions ts))) (numbers_differ (present_versions ts)) h in
     let before : t.now.number < version.number = All-head (IsBefore version.number) t ts a in
     let differs : (version.number == t.now.number) ≡ false = grind (arith, nat_tests) in
-    and_join _ _ (ap not (other_put ts name version t.now.number differs (not_true _ p.0))) (later (All-tail (IsBefore version.number) t ts a) p.1)
+    and_join _ _ (ap not (other_put ts name version t.now.number differs (not_true _ p.0)))
+        (later (All-tail (IsBefore version.number) t ts a) p.1)
 
 -- the numbers differ still as the next version is put
-pub numbers_put : (ts : List TableState) (name : List ℕ) (version : Version) → All (IsBefore version.number) ts → numbers_differ (present_versions ts) ≡ true → numbers_differ (present_versions (put_version ts name version)) ≡ true
+pub numbers_put : (ts : List TableState) (name : List ℕ) (version : Version) → All (IsBefore version.number) ts
+    → numbers_differ (present_versions ts) ≡ true
+    → numbers_differ (present_versions (put_version ts name version)) ≡ true
 numbers_put [] name version a h = refl
-numbers_put (t ∷ ts) name version a h = numbers_by (bytes_eq name t.name) t ts name version a h (numbers_put ts name version)
+numbers_put (t ∷ ts) name version a h =
+    numbers_by (bytes_eq name t.name) t ts name version a h (numbers_put ts name version)
 
-before_by : (test : Bool) (t : TableState) (ts : List TableState) (name : List ℕ) (version : Version) (next : ℕ) → version.number < next → All (IsBefore next) (t ∷ ts) →
-    (All (IsBefore next) ts → All (IsBefore next) (put_version ts name version)) → All (IsBefore next) (cond test (renewed t version ∷ ts) (t ∷ put_version ts name version))
-before_by true t ts name version next lt a later = All-cons (IsBefore next) (renewed t version) ts lt (All-tail (IsBefore next) t ts a)
-before_by false t ts name version next lt a later = All-cons (IsBefore next) t (put_version ts name version) (All-head (IsBefore next) t ts a) (later (All-tail (IsBefore next) t ts a))
+before_by : (test : Bool) (t : TableState) (ts : List TableState) (name : List ℕ) (version : Version) (next : ℕ)
+    → version.number < next → All (IsBefore next) (t ∷ ts) →
+    (All (IsBefore next) ts → All (IsBefore next) (put_version ts name version))
+        → All (IsBefore next) (cond test (renewed t version ∷ ts) (t ∷ put_version ts name version))
+before_by true t ts name version next lt a later =
+    All-cons (IsBefore next) (renewed t version) ts lt (All-tail (IsBefore next) t ts a)
+before_by false t ts name version next lt a later =
+    All-cons (IsBefore next) t (put_version ts name version) (All-head (IsBefore next) t ts a)
+    (later (All-tail (IsBefore next) t ts a))
 
-before_put : (ts : List TableState) (name : List ℕ) (version : Version) (next : ℕ) → version.number < next → All (IsBefore next) ts → All (IsBefore next) (put_version ts name version)
-before_put [] name version next lt a = All-cons (IsBefore next) (record { name = name; now = version; indexed = [] }) [] lt (All-nil (IsBefore next))
-before_put (t ∷ ts) name version next lt a = before_by (bytes_eq name t.name) t ts name version next lt a (before_put ts name version next lt)
+before_put : (ts : List TableState) (name : List ℕ) (version : Version) (next : ℕ) → version.number < next
+    → All (IsBefore next) ts → All (IsBefore next) (put_version ts name version)
+before_put [] name version next lt a =
+    All-cons (IsBefore next) (record { name = name; now = version; indexed = [] }) [] lt (All-nil (IsBefore next))
+before_put (t ∷ ts) name version next lt a =
+    before_by (bytes_eq name t.name) t ts name version next lt a (before_put ts name version next lt)
 
 -- all numbers are below the one after the next
-pub numbered_put : (ts : List TableState) (name : List ℕ) (version : Version) → All (IsBefore version.number) ts → All (IsBefore (version.number + 1)) (put_version ts name version)
+pub numbered_put : (ts : List TableState) (name : List ℕ) (version : Version) → All (IsBefore version.number) ts
+    → All (IsBefore (version.number + 1)) (put_version ts name version)
 numbered_put ts name version a =
     before_put ts name version (version.number + 1) (omega arith)
     (All-weaker (IsBefore version.number) (IsBefore (version.number + 1)) (λ t h. omega arith) ts a)

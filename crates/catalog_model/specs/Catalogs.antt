@@ -43,7 +43,8 @@ find_table (table ∷ tables) name = if bytes_eq name table.name then Some table
 -- the statement of this name
 abbrev pub find_statement : List StatementState → List ℕ → Option Statement
 find_statement [] name = None
-find_statement (prepared ∷ others) name = if bytes_eq name prepared.name then Some prepared.statement else find_statement others name
+find_statement (prepared ∷ others) name =
+    if bytes_eq name prepared.name then Some prepared.statement else find_statement others name
 
 -- the tables that the names of a statement can stand for
 abbrev pub schemas_of : List TableState → List Known
@@ -78,7 +79,8 @@ next_version catalog content bytes = record { content = content; bytes = bytes; 
 abbrev pub put_version : List TableState → List ℕ → Version → List TableState
 put_version [] name version = record { name = name; now = version; indexed = [] } ∷ []
 put_version (table ∷ tables) name version =
-    if bytes_eq name table.name then record table { now = version } ∷ tables else table ∷ put_version tables name version
+    if bytes_eq name table.name then record table { now = version } ∷ tables else table ∷ put_version tables name
+    version
 
 -- a table has a new version
 abbrev pub with_version : Catalog → List ℕ → Version → Catalog

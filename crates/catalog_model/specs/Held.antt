@@ -24,7 +24,8 @@ numbers_differ (version ∷ versions) = not (has_number version.number versions)
 -- the versions, each number once
 abbrev pub each_once : List Version → List Version
 each_once [] = []
-each_once (version ∷ versions) = if has_number version.number versions then each_once versions else version ∷ each_once versions
+each_once (version ∷ versions) =
+    if has_number version.number versions then each_once versions else version ∷ each_once versions
 
 -- the cells and the file bytes of a list of versions
 abbrev pub cells_in : List Version → ℕ

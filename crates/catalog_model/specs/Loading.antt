@@ -27,7 +27,8 @@ abbrev pub are_same_columns : List Column → List Column → Bool
 are_same_columns [] [] = true
 are_same_columns [] (new ∷ news) = false
 are_same_columns (old ∷ olds) [] = false
-are_same_columns (old ∷ olds) (new ∷ news) = bytes_eq old.name new.name && is_same_kind old.kind new.kind && are_same_columns olds news
+are_same_columns (old ∷ olds) (new ∷ news) =
+    bytes_eq old.name new.name && is_same_kind old.kind new.kind && are_same_columns olds news
 
 -- a table of this name is loaded, with other columns
 abbrev pub has_other_columns : Option TableValue → TableValue → Bool
@@ -54,7 +55,8 @@ within_limits new (Some limit) = Err (refusal STORE_LIMIT limit)
 -- the new version of the table of this name, or why it isn't kept
 abbrev pub keeping_of : List Version → List TableState → List ℕ → Version → Result Version Refusal
 keeping_of held tables name new =
-    if has_other_columns (find_table tables name) new.content then Err (refusal SCHEMA_DIFFERS (canonical_name name)) else
+    if has_other_columns (find_table tables name) new.content then Err
+    (refusal SCHEMA_DIFFERS (canonical_name name)) else
     within_limits new (limit_passed_by held (put_version tables name new))
 
 -- the same of what a file of so many bytes spells

@@ -1,5 +1,5 @@
 -- What every catalog of a session has.
-use Rattle.std.specs.Prelude.{ℕ, ◌≡◌, ◌≤◌, ◌<◌, List, ◌++◌, length, All, IsTrue, Some}
+use Rattle.std.specs.Prelude.{◌≡◌, ◌≤◌, ◌<◌, List, ◌++◌, length, All, IsTrue, Some}
 use Rattle.std.specs.Option.{option_map}
 use Rattle.row_values.specs.declared.statement.Place.{Place}
 use Rattle.name_binder.specs.Catalog.{names_differ}

@@ -43,10 +43,27 @@ scan_is_valid q h =
     let n = b.one in
     let plain : is_grouped q ≡ false = rw b.no_groups refl in
     let unordered : wants_order q ≡ false = rw (b.no_groups, b.no_order) refl in
-    record { plan = omega arith; whole = whole_place (length q.places) b.one; suits = (plain, λ w. absurd (neither (wants_order q) unordered w)) }
+    record {
+      plan = omega arith;
+      whole = whole_place (length q.places) b.one;
+      suits =
+          (plain, λ w. absurd (neither (wants_order q) unordered w));
+    }
 
-pub shown : (number : ℕ) (name : List ℕ) (q : Statement) (tables : List (List (List Value))) (args : List Value) → is_built q ≡ true → IsExecution number name q tables args (scan_execution number name q tables args)
-shown number name q tables args h = record { named = refl; numbered = refl; plan = scan_plan; valid = scan_is_valid q h; which = refl; spelled = refl; cost = refl; at = refl }
+pub shown : (number : ℕ) (name : List ℕ) (q : Statement) (tables : List (List (List Value))) (args : List Value)
+    → is_built q ≡ true → IsExecution number name q tables args (scan_execution number name q tables args)
+shown number name q tables args h =
+    record {
+      named = refl;
+      numbered = refl;
+      plan = scan_plan;
+      valid = scan_is_valid q h;
+      which = refl;
+      spelled =
+          refl;
+      cost = refl;
+      at = refl;
+    }
 
 -- What it says that nothing is refused.
 
@@ -54,7 +71,8 @@ pub record Runs (q : Statement) (row_count : ℕ) : Type 0 where
   pub built : is_built q ≡ true
   pub few : nat_le row_count 1000000 ≡ true
 
-runs_by : (form few : Bool) (large unbuilt : Refusal) → cond form (cond few None (Some large)) (Some unbuilt) ≡ None → (form ≡ true) × (few ≡ true)
+runs_by : (form few : Bool) (large unbuilt : Refusal) → cond form (cond few None (Some large)) (Some unbuilt) ≡ None
+    → (form ≡ true) × (few ≡ true)
 runs_by true true large unbuilt h = (refl, refl)
 runs_by true false large unbuilt h = absurd cc
 runs_by false few large unbuilt h = absurd cc

@@ -31,45 +31,70 @@ Can P = (answer : Reply) × (new : State) × P answer new
 refuses : (why : Refusal) (old : State) → Can (Refuses why old)
 refuses why old = (reply.Refused why, old, record { says = refl; unchanged = refl })
 
-by_result : {A : Type 0} (r : Result A Refusal) (old : State) (P : A → Reply → State → Type 0) → ((a : A) → Can (P a)) → Can (λ answer new. MatchResult r (λ a. P a answer new) (λ why. Refuses why old answer new))
+by_result : {A : Type 0} (r : Result A Refusal) (old : State) (P : A → Reply → State → Type 0) → ((a : A) → Can (P a))
+    → Can (λ answer new. MatchResult r (λ a. P a answer new) (λ why. Refuses why old answer new))
 by_result (Ok a) old P p = p a
 by_result (Err why) old P p = refuses why old
 
-by_option : (o : Option Refusal) (old : State) (P : Reply → State → Type 0) → (o ≡ None → Can P) → Can (λ answer new. MatchOption o (P answer new) (λ why. Refuses why old answer new))
+by_option : (o : Option Refusal) (old : State) (P : Reply → State → Type 0) → (o ≡ None → Can P)
+    → Can (λ answer new. MatchOption o (P answer new) (λ why. Refuses why old answer new))
 by_option None old P p = p refl
 by_option (Some why) old P p = refuses why old
 
 loads : (old : State) (name : List ℕ) (version : Version) → Can (Loads old name version)
-loads old name version =
-    (reply.Loaded name (length version.content.rows) (length version.content.schema), record old { catalog = with_version old.catalog name version }, record { says = refl; keeps = refl })
+loads old name version = (
+  reply.Loaded name (length version.content.rows)
+      (length version.content.schema),
+  record old { catalog = with_version old.catalog name version },
+  record
+      { says = refl; keeps = refl },
+)
 
 load_goes_on : (old : State) (name : List ℕ) (file : Option (List ℕ)) → Can (LoadStep old name file)
 load_goes_on old name None = refuses (refusal MISSING_FILE []) old
-load_goes_on old name (Some bytes) = by_result (loading_of (held_versions old.cursors) old.catalog name bytes) old (Loads old name) (loads old name)
+load_goes_on old name (Some bytes) =
+    by_result (loading_of (held_versions old.cursors) old.catalog name bytes) old (Loads old name) (loads old name)
 
 prepares : (old : State) (name : List ℕ) (q : Statement) → Can (Prepares old name q)
-prepares old name q =
-    (reply.Prepared name (length q.places) (length q.preds) (length (kinds_of q.places q.preds)), record old { catalog = with_statement old.catalog name q }, record { says = refl; keeps = refl })
+prepares old name q = (
+  reply.Prepared name (length q.places) (length q.preds)
+      (length (kinds_of q.places q.preds)),
+  record old { catalog = with_statement old.catalog name q },
+  record
+      { says = refl; keeps = refl },
+)
 
 prepare_goes_on : (old : State) (name : List ℕ) (select : Parts) → Can (PrepareStep old name select)
-prepare_goes_on old name select = by_result (preparing_of old.catalog name select) old (Prepares old name) (prepares old name)
+prepare_goes_on old name select =
+    by_result (preparing_of old.catalog name select) old (Prepares old name) (prepares old name)
 
-executes : (old : State) (name : List ℕ) (q : Statement) (args : List Value) → execution_refusal q (present_tables old q) args ≡ None → Can (Executes old name q args)
+executes : (old : State) (name : List ℕ) (q : Statement) (args : List Value)
+    → execution_refusal q (present_tables old q) args ≡ None → Can (Executes old name q args)
 executes old name q args none =
     let allowed = runs q (length (meaning_of q (present_tables old q) args)) none in
     let execution = scan_execution (old.executions + 1) name q (present_tables old q) args in (
       reply.Ran execution (map row_line (meaning_of q (present_tables old q) args)),
       record old { executions = old.executions + 1 },
-      record { execution = execution; shows = shown (old.executions + 1) name q (present_tables old q) args allowed.built; says = refl; counts = refl },
+      record {
+        execution = execution;
+        shows =
+            shown (old.executions + 1) name q (present_tables old q) args allowed.built;
+        says = refl;
+        counts = refl;
+      },
     )
 
-instance_goes_on : (old : State) (name : List ℕ) (instance : Instance) → Can (InstanceStep old name instance.statement instance.args)
+instance_goes_on : (old : State) (name : List ℕ) (instance : Instance)
+    → Can (InstanceStep old name instance.statement instance.args)
 instance_goes_on old name instance =
-    by_option (execution_refusal instance.statement (present_tables old instance.statement) instance.args) old (Executes old name instance.statement instance.args)
+    by_option (execution_refusal instance.statement (present_tables old instance.statement) instance.args) old
+    (Executes old name instance.statement instance.args)
     (executes old name instance.statement instance.args)
 
 run_goes_on : (old : State) (name : List ℕ) (args : List Value) → Can (RunStep old name args)
-run_goes_on old name args = by_result (instance_of old.catalog name args) old (λ instance. InstanceStep old name instance.statement instance.args) (instance_goes_on old name)
+run_goes_on old name args =
+    by_result (instance_of old.catalog name args) old
+    (λ instance. InstanceStep old name instance.statement instance.args) (instance_goes_on old name)
 
 command_goes_on : (old : State) (command : Command) (file : Option (List ℕ)) → Can (CommandStep old command file)
 command_goes_on old (Load table name) file = load_goes_on old table file
@@ -82,7 +107,8 @@ command_goes_on old (Close cursor) file = refuses (refusal NOT_BUILT []) old
 command_goes_on old (Evict name plan) file = refuses (refusal NOT_BUILT []) old
 command_goes_on old (Show name) file = refuses (refusal NOT_BUILT []) old
 
-pub goes_on : (old : State) (reading : Reading) (file : Option (List ℕ)) → IsSession old → is_silent reading ≡ false → CanStep old reading file
+pub goes_on : (old : State) (reading : Reading) (file : Option (List ℕ)) → IsSession old → is_silent reading ≡ false
+    → CanStep old reading file
 unfolding Step
 goes_on old Silent file session spoken = absurd cc
 goes_on old (Says command) file session spoken = command_goes_on old command file

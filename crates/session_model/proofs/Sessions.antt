@@ -42,48 +42,70 @@ pub first : (settings : Settings) → IsSession (initial_state settings)
 first settings = record { catalog = empty; cursor_names = refl; few_cursors = omega arith }
 
 -- a session with another catalog that is sound
-with_catalog : (old new : State) (catalog : Catalog) → IsSession old → IsCatalog (held_versions old.cursors) catalog → new ≡ record old { catalog = catalog } → IsSession new
-with_catalog old new catalog session sound e = subst IsSession (sym e) (record { catalog = sound; cursor_names = session.cursor_names; few_cursors = session.few_cursors })
+with_catalog : (old new : State) (catalog : Catalog) → IsSession old → IsCatalog (held_versions old.cursors) catalog
+    → new ≡ record old { catalog = catalog } → IsSession new
+with_catalog old new catalog session sound e =
+    subst IsSession (sym e)
+    (record { catalog = sound; cursor_names = session.cursor_names; few_cursors = session.few_cursors })
 
 refused : (why : Refusal) (old new : State) (reply : Reply) → IsSession old → Refuses why old reply new → IsSession new
 refused why old new reply session r = subst IsSession (sym r.unchanged) session
 
 -- by which outcome a line was answered
-by_result : {A : Type 0} (R : Type 0) (r : Result A Refusal) (P : A → Type 0) (Q : Refusal → Type 0) → MatchResult r P Q → ((a : A) → r ≡ Ok a → P a → R) → ((why : Refusal) → Q why → R) → R
+by_result : {A : Type 0} (R : Type 0) (r : Result A Refusal) (P : A → Type 0) (Q : Refusal → Type 0) → MatchResult r P Q
+    → ((a : A) → r ≡ Ok a → P a → R) → ((why : Refusal) → Q why → R) → R
 by_result R (Ok a) P Q m ok err = ok a refl m
 by_result R (Err why) P Q m ok err = err why m
 
-by_option : (R : Type 0) (o : Option Refusal) (P : Type 0) (Q : Refusal → Type 0) → MatchOption o P Q → (P → R) → ((why : Refusal) → Q why → R) → R
+by_option : (R : Type 0) (o : Option Refusal) (P : Type 0) (Q : Refusal → Type 0) → MatchOption o P Q → (P → R)
+    → ((why : Refusal) → Q why → R) → R
 by_option R None P Q m none some = none m
 by_option R (Some why) P Q m none some = some why m
 
-load_keeps : (old new : State) (name : List ℕ) (file : Option (List ℕ)) (reply : Reply) → IsSession old → LoadStep old name file reply new → IsSession new
+load_keeps : (old new : State) (name : List ℕ) (file : Option (List ℕ)) (reply : Reply) → IsSession old
+    → LoadStep old name file reply new → IsSession new
 load_keeps old new name None reply session step = refused _ old new reply session step
 load_keeps old new name (Some bytes) reply session step =
-    by_result (IsSession new) (loading_of (held_versions old.cursors) old.catalog name bytes) (λ version. Loads old name version reply new) (λ why. Refuses why old reply new) step
-    (λ version e l. with_catalog old new (with_version old.catalog name version) session (loaded (held_versions old.cursors) old.catalog name bytes version session.catalog e) l.keeps)
+    by_result (IsSession new) (loading_of (held_versions old.cursors) old.catalog name bytes)
+    (λ version. Loads old name version reply new) (λ why. Refuses why old reply new) step
+    (λ version e l. with_catalog old new (with_version old.catalog name version) session
+    (loaded (held_versions old.cursors) old.catalog name bytes version session.catalog e) l.keeps)
     (λ why r. refused why old new reply session r)
 
-prepare_keeps : (old new : State) (name : List ℕ) (select : Parts) (reply : Reply) → IsSession old → PrepareStep old name select reply new → IsSession new
+prepare_keeps : (old new : State) (name : List ℕ) (select : Parts) (reply : Reply) → IsSession old
+    → PrepareStep old name select reply new → IsSession new
 prepare_keeps old new name select reply session step =
-    by_result (IsSession new) (preparing_of old.catalog name select) (λ q. Prepares old name q reply new) (λ why. Refuses why old reply new) step
-    (λ q e p. with_catalog old new (with_statement old.catalog name q) session (prepared (held_versions old.cursors) old.catalog name select q session.catalog e) p.keeps)
+    by_result (IsSession new) (preparing_of old.catalog name select) (λ q. Prepares old name q reply new)
+    (λ why. Refuses why old reply new) step
+    (λ q e p. with_catalog old new (with_statement old.catalog name q) session
+    (prepared (held_versions old.cursors) old.catalog name select q session.catalog e) p.keeps)
     (λ why r. refused why old new reply session r)
 
-executed : (old new : State) (name : List ℕ) (q : Statement) (args : List Value) (reply : Reply) → IsSession old → Executes old name q args reply new → IsSession new
-executed old new name q args reply session e = subst IsSession (sym e.counts) (record { catalog = session.catalog; cursor_names = session.cursor_names; few_cursors = session.few_cursors })
+executed : (old new : State) (name : List ℕ) (q : Statement) (args : List Value) (reply : Reply) → IsSession old
+    → Executes old name q args reply new → IsSession new
+executed old new name q args reply session e =
+    subst IsSession (sym e.counts)
+    (record { catalog = session.catalog; cursor_names = session.cursor_names; few_cursors = session.few_cursors })
 
-run_keeps : (old new : State) (name : List ℕ) (args : List Value) (reply : Reply) → IsSession old → RunStep old name args reply new → IsSession new
+run_keeps : (old new : State) (name : List ℕ) (args : List Value) (reply : Reply) → IsSession old
+    → RunStep old name args reply new → IsSession new
 run_keeps old new name args reply session step =
-    by_result (IsSession new) (instance_of old.catalog name args) (λ instance. InstanceStep old name instance.statement instance.args reply new) (λ why. Refuses why old reply new) step
-    (λ instance e s. by_option (IsSession new) (execution_refusal instance.statement (present_tables old instance.statement) instance.args) (Executes old name instance.statement instance.args reply new)
-    (λ why. Refuses why old reply new) s (executed old new name instance.statement instance.args reply session) (λ why r. refused why old new reply session r))
+    by_result (IsSession new) (instance_of old.catalog name args)
+    (λ instance. InstanceStep old name instance.statement instance.args reply new)
+    (λ why. Refuses why old reply new) step
+    (λ instance e s. by_option (IsSession new)
+    (execution_refusal instance.statement (present_tables old instance.statement) instance.args)
+    (Executes old name instance.statement instance.args reply new)
+    (λ why. Refuses why old reply new) s (executed old new name instance.statement instance.args reply session)
+    (λ why r. refused why old new reply session r))
     (λ why r. refused why old new reply session r)
 
-command_keeps : (old new : State) (command : Command) (file : Option (List ℕ)) (reply : Reply) → IsSession old → CommandStep old command file reply new → IsSession new
+command_keeps : (old new : State) (command : Command) (file : Option (List ℕ)) (reply : Reply) → IsSession old
+    → CommandStep old command file reply new → IsSession new
 command_keeps old new (Load table name) file reply session step = load_keeps old new table file reply session step
 command_keeps old new (Index table column) file reply session step = refused _ old new reply session step
-command_keeps old new (Prepare name select) file reply session step = prepare_keeps old new name select reply session step
+command_keeps old new (Prepare name select) file reply session step =
+    prepare_keeps old new name select reply session step
 command_keeps old new (Run name args) file reply session step = run_keeps old new name args reply session step
 command_keeps old new (Cursor cursor name args) file reply session step = refused _ old new reply session step
 command_keeps old new (Fetch cursor rows) file reply session step = refused _ old new reply session step
@@ -91,12 +113,16 @@ command_keeps old new (Close cursor) file reply session step = refused _ old new
 command_keeps old new (Evict name plan) file reply session step = refused _ old new reply session step
 command_keeps old new (Show name) file reply session step = refused _ old new reply session step
 
-pub kept : (old : State) (reading : Reading) (file : Option (List ℕ)) (reply : Reply) (new : State) → IsSession old → Step old reading file reply new → IsSession new
+pub kept : (old : State) (reading : Reading) (file : Option (List ℕ)) (reply : Reply) (new : State) → IsSession old
+    → Step old reading file reply new → IsSession new
 unfolding Step
 kept old Silent file reply new session step = elim step [ ]
 kept old (Says command) file reply new session step = command_keeps old new command file reply session step
 kept old Bad file reply new session step = refused _ old new reply session step
 
-pub kept_along : (files : Files) (old : State) (lines : List Line) (replies : List Reply) (new : State) → IsSession old → IsChain (StepOver files) old lines replies new → IsSession new
+pub kept_along : (files : Files) (old : State) (lines : List Line) (replies : List Reply) (new : State) → IsSession old
+    → IsChain (StepOver files) old lines replies new → IsSession new
 kept_along files old lines replies new session chain =
-    keeps (StepOver files) IsSession (λ a line reply b h step. kept a (reading_of line.text) (file_of files (reading_of line.text)) reply b h step) old lines replies new session chain
+    keeps (StepOver files) IsSession
+    (λ a line reply b h step. kept a (reading_of line.text) (file_of files (reading_of line.text)) reply b h step)
+    old lines replies new session chain

@@ -41,7 +41,8 @@ abbrev pub scan_cost : List (List Value) → ℕ
 scan_cost rows = COST_SCALE * max 1 (length rows)
 
 -- what an execution of this number shows, of the statement of this name over the rows of its places
-pub record IsExecution (number : ℕ) (name : List ℕ) (q : Statement) (tables : List (List (List Value))) (args : List Value) (execution : Execution) : Type 0 where
+pub record IsExecution (number : ℕ) (name : List ℕ) (q : Statement) (tables : List (List (List Value)))
+    (args : List Value) (execution : Execution) : Type 0 where
   pub named : execution.name ≡ name
   pub numbered : execution.number ≡ number
   -- a valid plan: which one it is, how it is spelled, and its cost; no column is indexed yet

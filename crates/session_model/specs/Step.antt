@@ -56,7 +56,8 @@ abbrev pub present_tables : State → Statement → List (List (List Value))
 present_tables state q = tables_of state.catalog.tables q
 
 -- the statement is executed: the reply has the execution, and a line for each row that the statement means
-pub record Executes (old : State) (name : List ℕ) (q : Statement) (args : List Value) (answer : Reply) (new : State) : Type 0 where
+pub record Executes (old : State) (name : List ℕ) (q : Statement) (args : List Value) (answer : Reply)
+    (new : State) : Type 0 where
   pub execution : Execution
   pub shows : IsExecution (old.executions + 1) name q (present_tables old q) args execution
   pub says : answer ≡ reply.Ran execution (map row_line (meaning_of q (present_tables old q) args))

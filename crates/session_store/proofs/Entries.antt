@@ -23,54 +23,78 @@ pub length-statements_in : (es : List (List ℕ × Statement)) → length (state
 length-statements_in [] = refl
 length-statements_in (e ∷ es) = ap suc (length-statements_in es)
 
-map_cond : (test : Bool) (h : Held) (rest : Option Held) (rest' : Option TableValue) → option_map (λ x. x.table.value) rest ≡ rest' → option_map (λ x. x.table.value) (cond test (Some h) rest) ≡ cond test (Some h.table.value) rest'
+map_cond : (test : Bool) (h : Held) (rest : Option Held) (rest' : Option TableValue)
+    → option_map (λ x. x.table.value) rest ≡ rest'
+    → option_map (λ x. x.table.value) (cond test (Some h) rest) ≡ cond test (Some h.table.value) rest'
 map_cond true h rest rest' e = refl
 map_cond false h rest rest' e = e
 
-pub found_table : (es : List (List ℕ × Held)) (name : List ℕ) → option_map (λ h. h.table.value) (lookup (λ k. bytes_eq name k) es) ≡ find_table (tables_in es) name
+pub found_table : (es : List (List ℕ × Held)) (name : List ℕ)
+    → option_map (λ h. h.table.value) (lookup (λ k. bytes_eq name k) es) ≡ find_table (tables_in es) name
 found_table [] name = refl
-found_table (e ∷ es) name = map_cond (bytes_eq name e.0) e.1 (lookup (λ k. bytes_eq name k) es) (find_table (tables_in es) name) (found_table es name)
+found_table (e ∷ es) name =
+    map_cond (bytes_eq name e.0) e.1 (lookup (λ k. bytes_eq name k) es) (find_table (tables_in es) name)
+    (found_table es name)
 
-pub found_statement : (es : List (List ℕ × Statement)) (name : List ℕ) → lookup (λ k. bytes_eq name k) es ≡ find_statement (statements_in es) name
+pub found_statement : (es : List (List ℕ × Statement)) (name : List ℕ)
+    → lookup (λ k. bytes_eq name k) es ≡ find_statement (statements_in es) name
 found_statement [] name = refl
 found_statement (e ∷ es) name = ap (cond (bytes_eq name e.0) (Some e.1)) (found_statement es name)
 
 -- the statement of a number
-pub statement_at : (es : List (List ℕ × Statement)) (i : ℕ) → option_map (λ (s : StatementState). s.statement) (slice_get (statements_in es) i) ≡ option_map (λ (e : List ℕ × Statement). e.1) (slice_get es i)
+pub statement_at : (es : List (List ℕ × Statement)) (i : ℕ)
+    → option_map (λ (s : StatementState). s.statement) (slice_get (statements_in es) i) ≡ option_map
+    (λ (e : List ℕ × Statement). e.1) (slice_get es i)
 statement_at [] i = refl
 statement_at (e ∷ es) zero = refl
 statement_at (e ∷ es) (suc i) = statement_at es i
 
-pub value_at : (es : List (List ℕ × Statement)) (i : ℕ) → slice_get (map (λ (e : List ℕ × Statement). e.1) es) i ≡ option_map (λ (e : List ℕ × Statement). e.1) (slice_get es i)
+pub value_at : (es : List (List ℕ × Statement)) (i : ℕ)
+    → slice_get (map (λ (e : List ℕ × Statement). e.1) es) i ≡ option_map (λ (e : List ℕ × Statement). e.1)
+    (slice_get es i)
 value_at [] i = refl
 value_at (e ∷ es) zero = refl
 value_at (e ∷ es) (suc i) = value_at es i
 
 -- what holds of each statement holds of the one of a number
-pub all_at : (P : Statement → Type 0) (ss : List StatementState) (i : ℕ) (q : Statement) → All (λ prepared. P prepared.statement) ss → option_map (λ (s : StatementState). s.statement) (slice_get ss i) ≡ Some q → P q
+pub all_at : (P : Statement → Type 0) (ss : List StatementState) (i : ℕ) (q : Statement)
+    → All (λ prepared. P prepared.statement) ss
+    → option_map (λ (s : StatementState). s.statement) (slice_get ss i) ≡ Some q → P q
 all_at P [] i q a h = absurd cc
-all_at P (s ∷ ss) zero q a h = let same : s.statement ≡ q = cc in subst P same (All-head (λ (x : StatementState). P x.statement) s ss a)
+all_at P (s ∷ ss) zero q a h = let same : s.statement ≡ q = cc in
+    subst P same (All-head (λ (x : StatementState). P x.statement) s ss a)
 all_at P (s ∷ ss) (suc i) q a h = all_at P ss i q (All-tail (λ (x : StatementState). P x.statement) s ss a) h
 
-statement_behind : (test : Bool) (e : List ℕ × Statement) (es : List (List ℕ × Statement)) (name : List ℕ) (q : Statement) → cond test (Some e.1) (find_statement (statements_in es) name) ≡ None →
-    (find_statement (statements_in es) name ≡ None → statements_in (insert_entry bytes_eq es name q) ≡ statements_in es ++ new_statement name q ∷ []) →
-    statements_in (cond test ((e.0, q) ∷ es) (e ∷ insert_entry bytes_eq es name q)) ≡ new_statement e.0 e.1 ∷ (statements_in es ++ new_statement name q ∷ [])
+statement_behind : (test : Bool) (e : List ℕ × Statement) (es : List (List ℕ × Statement)) (name : List ℕ)
+    (q : Statement) → cond test (Some e.1) (find_statement (statements_in es) name) ≡ None →
+    (find_statement (statements_in es) name ≡ None
+        → statements_in (insert_entry bytes_eq es name q) ≡ statements_in es ++ new_statement name q ∷ []) →
+    statements_in (cond test ((e.0, q) ∷ es) (e ∷ insert_entry bytes_eq es name q)) ≡ new_statement e.0 e.1 ∷
+        (statements_in es ++ new_statement name q ∷ [])
 statement_behind true e es name q none step = cc
 statement_behind false e es name q none step = ap (λ (ss : List StatementState). new_statement e.0 e.1 ∷ ss) (step none)
 
 -- a statement of a new name goes behind the others
-pub statement_last : (es : List (List ℕ × Statement)) (name : List ℕ) (q : Statement) → find_statement (statements_in es) name ≡ None → statements_in (insert_entry bytes_eq es name q) ≡ statements_in es ++ new_statement name q ∷ []
+pub statement_last : (es : List (List ℕ × Statement)) (name : List ℕ) (q : Statement)
+    → find_statement (statements_in es) name ≡ None
+    → statements_in (insert_entry bytes_eq es name q) ≡ statements_in es ++ new_statement name q ∷ []
 statement_last [] name q none = refl
-statement_last (e ∷ es) name q none = statement_behind (bytes_eq name e.0) e es name q none (λ (n : find_statement (statements_in es) name ≡ None). statement_last es name q n)
+statement_last (e ∷ es) name q none =
+    statement_behind (bytes_eq name e.0) e es name q none
+    (λ (n : find_statement (statements_in es) name ≡ None). statement_last es name q n)
 
 pub none_of : {T : Type 0} (o : Option T) → false ≡ is_some o → o ≡ None
 none_of None h = refl
 none_of (Some x) h = absurd cc
 
 -- one more table, for one more place
-pub tables_more : {A : Type 0} (f : A → Option TableValue) (g : Place → Option TableValue) (items items' : List A) (x : A) (places : List Place) (i : ℕ) (place : Place) → items' ≡ items ++ x ∷ [] → f x ≡ g place → place ≡ slice_index_or places i place → i < length places →
+pub tables_more : {A : Type 0} (f : A → Option TableValue) (g : Place → Option TableValue) (items items' : List A)
+    (x : A) (places : List Place) (i : ℕ) (place : Place) → items' ≡ items ++ x ∷ [] → f x ≡ g place
+    → place ≡ slice_index_or places i place → i < length places →
     map f items ≡ map g (take i places) → map f items' ≡ map g (take (i + 1) places)
 tables_more {A = A} f g items items' x places i place e same there lt so_far =
-    let more : take (i + 1) places ≡ take i places ++ place ∷ [] = take_more places i place lt ∙ ap (λ (p : Place). take i places ++ p ∷ []) (sym there) in
+    let more : take (i + 1) places ≡ take i places ++ place ∷ [] = take_more places i place lt
+        ∙ ap (λ (p : Place). take i places ++ p ∷ []) (sym there) in
     ap (map f) e ∙ (map-append f items (x ∷ []) ∙ (ap (λ (front : List (Option TableValue)). front ++ f x ∷ []) so_far
-    ∙ (ap (λ (y : Option TableValue). map g (take i places) ++ y ∷ []) same ∙ (sym (map-append g (take i places) (place ∷ [])) ∙ sym (ap (map g) more)))))
+    ∙ (ap (λ (y : Option TableValue). map g (take i places) ++ y ∷ []) same
+        ∙ (sym (map-append g (take i places) (place ∷ [])) ∙ sym (ap (map g) more)))))

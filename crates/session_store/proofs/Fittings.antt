@@ -11,16 +11,25 @@ use Rattle.catalog_model.specs.Instances.{Instance, args_refusal, refused_or, in
 abbrev instance : Statement → List Value → Instance
 instance q args = record { statement = q; args = args }
 
-pub unknown : (catalog : Catalog) (name : List ℕ) (args : List Value) (shown : List ℕ) → find_statement catalog.statements name ≡ None → shown ≡ canonical_name name → instance_of catalog name args ≡ Err (refusal 5 shown)
+pub unknown : (catalog : Catalog) (name : List ℕ) (args : List Value) (shown : List ℕ)
+    → find_statement catalog.statements name ≡ None → shown ≡ canonical_name name
+    → instance_of catalog name args ≡ Err (refusal 5 shown)
 unfolding instance_of
 unknown catalog name args shown n e = rw (n, e) refl
 
-found : (catalog : Catalog) (name : List ℕ) (args : List Value) (q : Statement) (why : Option Refusal) → find_statement catalog.statements name ≡ Some q → why ≡ args_refusal (kinds_of q.places q.preds) args → instance_of catalog name args ≡ refused_or why (Ok (instance q args))
+found : (catalog : Catalog) (name : List ℕ) (args : List Value) (q : Statement) (why : Option Refusal)
+    → find_statement catalog.statements name ≡ Some q → why ≡ args_refusal (kinds_of q.places q.preds) args
+    → instance_of catalog name args ≡ refused_or why (Ok (instance q args))
 unfolding instance_of
-found catalog name args q why f a = ap (λ (o : Option Statement). instance_in o name args) f ∙ ap (λ (r : Option Refusal). refused_or r (Ok (instance q args))) (sym a)
+found catalog name args q why f a = ap (λ (o : Option Statement). instance_in o name args) f
+    ∙ ap (λ (r : Option Refusal). refused_or r (Ok (instance q args))) (sym a)
 
-pub misfit : (catalog : Catalog) (name : List ℕ) (args : List Value) (q : Statement) (why : Refusal) → find_statement catalog.statements name ≡ Some q → Some why ≡ args_refusal (kinds_of q.places q.preds) args → instance_of catalog name args ≡ Err why
+pub misfit : (catalog : Catalog) (name : List ℕ) (args : List Value) (q : Statement) (why : Refusal)
+    → find_statement catalog.statements name ≡ Some q → Some why ≡ args_refusal (kinds_of q.places q.preds) args
+    → instance_of catalog name args ≡ Err why
 misfit catalog name args q why f a = found catalog name args q (Some why) f a
 
-pub fitting : (catalog : Catalog) (name : List ℕ) (args : List Value) (q : Statement) → find_statement catalog.statements name ≡ Some q → None ≡ args_refusal (kinds_of q.places q.preds) args → instance_of catalog name args ≡ Ok (record { statement = q; args = args })
+pub fitting : (catalog : Catalog) (name : List ℕ) (args : List Value) (q : Statement)
+    → find_statement catalog.statements name ≡ Some q → None ≡ args_refusal (kinds_of q.places q.preds) args
+    → instance_of catalog name args ≡ Ok (record { statement = q; args = args })
 fitting catalog name args q f a = found catalog name args q None f a

@@ -23,106 +23,173 @@ state_of name version = record { name = name; now = version; indexed = [] }
 put_by : (test : Bool) (e : List ℕ × Held) (es : List (List ℕ × Held)) (name : List ℕ) (held : Held) →
     tables_in (insert_entry bytes_eq es name held) ≡ put_version (tables_in es) name (version_of held) →
     tables_in (cond test ((e.0, held) ∷ es) (e ∷ insert_entry bytes_eq es name held))
-    ≡ cond test (state_of e.0 (version_of held) ∷ tables_in es) (state_of e.0 (version_of e.1) ∷ put_version (tables_in es) name (version_of held))
+    ≡ cond test (state_of e.0 (version_of held) ∷ tables_in es)
+    (state_of e.0 (version_of e.1) ∷ put_version (tables_in es) name (version_of held))
 put_by true e es name held later = refl
 put_by false e es name held later = ap (λ (ts : List TableState). state_of e.0 (version_of e.1) ∷ ts) later
 
 -- inserting an entry puts its version
-pub put_entry : (es : List (List ℕ × Held)) (name : List ℕ) (held : Held) → tables_in (insert_entry bytes_eq es name held) ≡ put_version (tables_in es) name (version_of held)
+pub put_entry : (es : List (List ℕ × Held)) (name : List ℕ) (held : Held)
+    → tables_in (insert_entry bytes_eq es name held) ≡ put_version (tables_in es) name (version_of held)
 put_entry [] name held = refl
 put_entry (e ∷ es) name held = put_by (bytes_eq name e.0) e es name held (put_entry es name held)
 
 -- What the versions hold.
 
-pub record Grown (ts : List TableState) (version : Version) (cells bytes more : ℕ) (put : List TableState) : Type 0 where
+pub record Grown (ts : List TableState) (version : Version) (cells bytes more : ℕ)
+    (put : List TableState) : Type 0 where
   pub count : length put ≡ length ts + more
   pub cell_count : cells_in (present_versions put) + cells ≡ cells_in (present_versions ts) + cells_of version.content
   pub byte_count : bytes_in (present_versions put) + bytes ≡ bytes_in (present_versions ts) + version.bytes
   pub cells_there : cells ≤ cells_in (present_versions ts)
   pub bytes_there : bytes ≤ bytes_in (present_versions ts)
 
-absent_by : (test : Bool) (e : List ℕ × Held) (es : List (List ℕ × Held)) (name : List ℕ) (version : Version) → cond test (Some e.1) (lookup (λ k. bytes_eq name k) es) ≡ None →
-    (lookup (λ k. bytes_eq name k) es ≡ None → Grown (tables_in es) version 0 0 1 (put_version (tables_in es) name version)) →
-    Grown (state_of e.0 (version_of e.1) ∷ tables_in es) version 0 0 1 (cond test (state_of e.0 version ∷ tables_in es) (state_of e.0 (version_of e.1) ∷ put_version (tables_in es) name version))
+absent_by : (test : Bool) (e : List ℕ × Held) (es : List (List ℕ × Held)) (name : List ℕ) (version : Version)
+    → cond test (Some e.1) (lookup (λ k. bytes_eq name k) es) ≡ None →
+    (lookup (λ k. bytes_eq name k) es ≡ None
+    → Grown (tables_in es) version 0 0 1 (put_version (tables_in es) name version)) →
+    Grown (state_of e.0 (version_of e.1) ∷ tables_in es) version 0 0 1
+    (cond test (state_of e.0 version ∷ tables_in es)
+    (state_of e.0 (version_of e.1) ∷ put_version (tables_in es) name version))
 absent_by true e es name version h later = absurd cc
 absent_by false e es name version h later =
     let g = later h in
     let a = g.count in let b = g.cell_count in let c = g.byte_count in
-    record { count = omega arith; cell_count = omega arith; byte_count = omega arith; cells_there = omega arith; bytes_there = omega arith }
+    record {
+      count = omega arith;
+      cell_count = omega arith;
+      byte_count = omega arith;
+      cells_there =
+          omega arith;
+      bytes_there = omega arith;
+    }
 
-pub absent : (es : List (List ℕ × Held)) (name : List ℕ) (version : Version) → lookup (λ k. bytes_eq name k) es ≡ None → Grown (tables_in es) version 0 0 1 (put_version (tables_in es) name version)
-absent [] name version h = record { count = refl; cell_count = omega arith; byte_count = omega arith; cells_there = omega arith; bytes_there = omega arith }
+pub absent : (es : List (List ℕ × Held)) (name : List ℕ) (version : Version) → lookup (λ k. bytes_eq name k) es ≡ None
+    → Grown (tables_in es) version 0 0 1 (put_version (tables_in es) name version)
+absent [] name version h =
+    record {
+      count = refl;
+      cell_count = omega arith;
+      byte_count = omega arith;
+      cells_there = omega arith;
+      bytes_there =
+          omega arith;
+    }
 absent (e ∷ es) name version h = absent_by (bytes_eq name e.0) e es name version h (absent es name version)
 
-present_by : (test : Bool) (e : List ℕ × Held) (es : List (List ℕ × Held)) (name : List ℕ) (version : Version) (held : Held) → cond test (Some e.1) (lookup (λ k. bytes_eq name k) es) ≡ Some held →
-    (lookup (λ k. bytes_eq name k) es ≡ Some held → Grown (tables_in es) version (cells_of held.table.value) held.bytes 0 (put_version (tables_in es) name version)) →
+present_by : (test : Bool) (e : List ℕ × Held) (es : List (List ℕ × Held)) (name : List ℕ) (version : Version)
+    (held : Held) → cond test (Some e.1) (lookup (λ k. bytes_eq name k) es) ≡ Some held →
+    (lookup (λ k. bytes_eq name k) es ≡ Some held
+    → Grown (tables_in es) version (cells_of held.table.value) held.bytes 0
+    (put_version (tables_in es) name version)) →
     Grown (state_of e.0 (version_of e.1) ∷ tables_in es) version (cells_of held.table.value) held.bytes 0
-    (cond test (state_of e.0 version ∷ tables_in es) (state_of e.0 (version_of e.1) ∷ put_version (tables_in es) name version))
+    (cond test (state_of e.0 version ∷ tables_in es)
+    (state_of e.0 (version_of e.1) ∷ put_version (tables_in es) name version))
 present_by true e es name version held h later =
     let same : e.1 ≡ held = cc in
     let a : cells_of e.1.table.value ≡ cells_of held.table.value = ap (λ (x : Held). cells_of x.table.value) same in
     let b : e.1.bytes ≡ held.bytes = ap (λ (x : Held). x.bytes) same in
-    record { count = omega arith; cell_count = omega arith; byte_count = omega arith; cells_there = omega arith; bytes_there = omega arith }
+    record {
+      count = omega arith;
+      cell_count = omega arith;
+      byte_count = omega arith;
+      cells_there =
+          omega arith;
+      bytes_there = omega arith;
+    }
 present_by false e es name version held h later =
     let g = later h in
     let a = g.count in let b = g.cell_count in let c = g.byte_count in let d = g.cells_there in let f = g.bytes_there in
-    record { count = omega arith; cell_count = omega arith; byte_count = omega arith; cells_there = omega arith; bytes_there = omega arith }
+    record {
+      count = omega arith;
+      cell_count = omega arith;
+      byte_count = omega arith;
+      cells_there =
+          omega arith;
+      bytes_there = omega arith;
+    }
 
-pub present : (es : List (List ℕ × Held)) (name : List ℕ) (version : Version) (held : Held) → lookup (λ k. bytes_eq name k) es ≡ Some held →
+pub present : (es : List (List ℕ × Held)) (name : List ℕ) (version : Version) (held : Held)
+    → lookup (λ k. bytes_eq name k) es ≡ Some held →
     Grown (tables_in es) version (cells_of held.table.value) held.bytes 0 (put_version (tables_in es) name version)
 present [] name version held h = absurd cc
-present (e ∷ es) name version held h = present_by (bytes_eq name e.0) e es name version held h (present es name version held)
+present (e ∷ es) name version held h =
+    present_by (bytes_eq name e.0) e es name version held h (present es name version held)
 
 -- what the counts of a store are, as plain sums over its tables
 pub record Counted (es : List (List ℕ × Held)) (cells bytes : ℕ) : Type 0 where
   pub cells_are : cells ≡ cells_in (present_versions (tables_in es))
   pub bytes_are : bytes ≡ bytes_in (present_versions (tables_in es))
 
-pub counted : (es : List (List ℕ × Held)) (ss : List (List ℕ × Statement)) (versions cells bytes : ℕ) → IsKept (catalog_in es ss versions) cells bytes → Counted es cells bytes
+pub counted : (es : List (List ℕ × Held)) (ss : List (List ℕ × Statement)) (versions cells bytes : ℕ)
+    → IsKept (catalog_in es ss versions) cells bytes → Counted es cells bytes
 counted es ss versions cells bytes k = record {
   cells_are = k.cell_count ∙ cells_once (present_versions (tables_in es)) k.sound.version_numbers;
   bytes_are = k.byte_count ∙ bytes_once (present_versions (tables_in es)) k.sound.version_numbers;
 }
 
 -- the totals with a version that is put
-pub totals_after : (now : Catalog) (es : List (List ℕ × Held)) (name : List ℕ) (content : TableValue) (length_in_bytes : ℕ) (totals : Totals) (cells bytes more : ℕ) → tables_in es ≡ now.tables → IsCatalog [] now →
-    Grown (tables_in es) (next_version now content length_in_bytes) cells bytes more (put_version (tables_in es) name (next_version now content length_in_bytes)) →
-    totals.tables ≡ length es + more → totals.cells + cells ≡ cells_in (present_versions (tables_in es)) + cells_of content → totals.bytes + bytes ≡ bytes_in (present_versions (tables_in es)) + length_in_bytes →
+pub totals_after : (now : Catalog) (es : List (List ℕ × Held)) (name : List ℕ) (content : TableValue)
+    (length_in_bytes : ℕ) (totals : Totals) (cells bytes more : ℕ) → tables_in es ≡ now.tables → IsCatalog [] now →
+    Grown (tables_in es) (next_version now content length_in_bytes) cells bytes more
+    (put_version (tables_in es) name (next_version now content length_in_bytes)) →
+    totals.tables ≡ length es + more
+    → totals.cells + cells ≡ cells_in (present_versions (tables_in es)) + cells_of content
+    → totals.bytes + bytes ≡ bytes_in (present_versions (tables_in es)) + length_in_bytes →
     AreTotals totals (put_version now.tables name (next_version now content length_in_bytes))
 totals_after now es name content length_in_bytes totals cells bytes more view sound g a b c =
     let version : Version = next_version now content length_in_bytes in
     let put : List TableState = put_version (tables_in es) name version in
     let e : put ≡ put_version now.tables name version = ap (λ (x : List TableState). put_version x name version) view in
-    let differ : numbers_differ (present_versions (put_version now.tables name version)) ≡ true = numbers_put now.tables name version sound.numbered sound.version_numbers in
+    let differ : numbers_differ (present_versions (put_version now.tables name version)) ≡ true =
+    numbers_put now.tables name version sound.numbered sound.version_numbers in
     let l = length-tables_in es in
     let n : length put ≡ length (put_version now.tables name version) = ap length e in
-    let m : cells_in (present_versions put) ≡ cells_in (present_versions (put_version now.tables name version)) = ap (λ (x : List TableState). cells_in (present_versions x)) e in
-    let o : bytes_in (present_versions put) ≡ bytes_in (present_versions (put_version now.tables name version)) = ap (λ (x : List TableState). bytes_in (present_versions x)) e in
-    let mc : cells_held (present_versions (put_version now.tables name version)) ≡ cells_in (present_versions (put_version now.tables name version)) = cells_once _ differ in
-    let oc : bytes_held (present_versions (put_version now.tables name version)) ≡ bytes_in (present_versions (put_version now.tables name version)) = bytes_once _ differ in
+    let m : cells_in (present_versions put) ≡ cells_in (present_versions (put_version now.tables name version)) =
+    ap (λ (x : List TableState). cells_in (present_versions x)) e in
+    let o : bytes_in (present_versions put) ≡ bytes_in (present_versions (put_version now.tables name version)) =
+    ap (λ (x : List TableState). bytes_in (present_versions x)) e in
+    let mc : cells_held (present_versions (put_version now.tables name version)) ≡ cells_in
+    (present_versions (put_version now.tables name version)) = cells_once _ differ in
+    let oc : bytes_held (present_versions (put_version now.tables name version)) ≡ bytes_in
+    (present_versions (put_version now.tables name version)) = bytes_once _ differ in
     let gc = g.count in let gd = g.cell_count in let gb = g.byte_count in
     record { tables_held = omega arith; cells = omega arith; bytes = omega arith }
 
 -- A call of `put`.
 
 -- the catalog after an entry was inserted
-pub catalog_after : (now : Catalog) (es es' : List (List ℕ × Held)) (ss : List (List ℕ × Statement)) (name n : List ℕ) (held : Held) (content : TableValue) (bytes versions : ℕ) →
-    catalog_in es ss versions ≡ now → es' ≡ insert_entry bytes_eq es name held → name ≡ n → held.table.value ≡ content → held.bytes ≡ bytes → held.number ≡ versions →
+pub catalog_after : (now : Catalog) (es es' : List (List ℕ × Held)) (ss : List (List ℕ × Statement)) (name n : List ℕ)
+    (held : Held) (content : TableValue) (bytes versions : ℕ) →
+    catalog_in es ss versions ≡ now → es' ≡ insert_entry bytes_eq es name held → name ≡ n → held.table.value ≡ content
+    → held.bytes ≡ bytes → held.number ≡ versions →
     catalog_in es' ss (versions + 1) ≡ with_version now n (next_version now content bytes)
 catalog_after now es es' ss name n held content bytes versions view e a b c d =
     let v : version_of held ≡ record { content = content; bytes = bytes; number = versions } = rw (b, c, d) refl in
-    let put : tables_in es' ≡ put_version (tables_in es) n (record { content = content; bytes = bytes; number = versions }) =
-    ap tables_in e ∙ (put_entry es name held ∙ (ap (λ (x : List ℕ). put_version (tables_in es) x (version_of held)) a ∙ ap (put_version (tables_in es) n) v)) in
-    ap (λ (x : List TableState). let k : Catalog = record { tables = x; statements = statements_in ss; versions = versions + 1 } in k) put
+    let put : tables_in es' ≡ put_version (tables_in es) n
+    (record { content = content; bytes = bytes; number = versions }) =
+    ap tables_in e ∙ (put_entry es name held
+    ∙ (ap (λ (x : List ℕ). put_version (tables_in es) x (version_of held)) a ∙ ap (put_version (tables_in es) n) v))
+    in
+    ap (λ (x : List TableState). let k : Catalog =
+    record { tables = x; statements = statements_in ss; versions = versions + 1 } in k) put
     ∙ ap (λ (k : Catalog). with_version k n (next_version k content bytes)) view
 
 -- the invariant after it
-pub kept_after : (now after : Catalog) (name : List ℕ) (content : TableValue) (bytes : ℕ) (totals : Totals) → IsCatalog [] now → after ≡ with_version now name (next_version now content bytes) →
-    has_other_columns (find_table now.tables name) content ≡ false → AreTotals totals (put_version now.tables name (next_version now content bytes)) →
-    limit_passed_by [] (put_version now.tables name (next_version now content bytes)) ≡ None → IsKept after totals.cells totals.bytes
+pub kept_after : (now after : Catalog) (name : List ℕ) (content : TableValue) (bytes : ℕ) (totals : Totals)
+    → IsCatalog [] now → after ≡ with_version now name (next_version now content bytes) →
+    has_other_columns (find_table now.tables name) content ≡ false
+    → AreTotals totals (put_version now.tables name (next_version now content bytes)) →
+    limit_passed_by [] (put_version now.tables name (next_version now content bytes)) ≡ None
+    → IsKept after totals.cells totals.bytes
 kept_after now after name content bytes totals sound e columns are limits =
     subst (λ (k : Catalog). IsKept k totals.cells totals.bytes) (sym e)
-    (record { cell_count = are.cells; byte_count = are.bytes; sound = kept [] now name (next_version now content bytes) sound refl columns limits })
+    (record {
+      cell_count = are.cells;
+      byte_count = are.bytes;
+      sound =
+          kept [] now name (next_version now content bytes) sound refl columns limits;
+    })
 
 -- no column of the one
 pub uneven : (xs ys : List Column) → length ys ≡ 0 → 0 < length xs → are_same_columns xs ys ≡ false

@@ -44,7 +44,8 @@ Prepares wanted old name (Err fault) new = Says wanted fault × (new ≡ old)
 -- the number is that of this statement
 abbrev pub IsNumber : Catalog → Statement → ℕ → Type 0
 IsNumber catalog q number =
-    (number < length catalog.statements) × (option_map (λ prepared. prepared.statement) (slice_get catalog.statements number) ≡ Some q)
+    (number < length catalog.statements)
+    × (option_map (λ prepared. prepared.statement) (slice_get catalog.statements number) ≡ Some q)
 
 -- the number of the statement that is wanted with these arguments; or its refusal, or want of memory
 abbrev pub Instantiates : Result Instance Refusal → Catalog → List Value → Result stored.Instance StoreFault → Type 0

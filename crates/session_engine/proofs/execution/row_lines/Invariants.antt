@@ -5,4 +5,6 @@ use Rattle.session_engine.proofs.execution.row_lines.Given as goal
 
 -- the lines of the rows so far
 abbrev pub invariant-loop-row : goal.invariant-loop-row
-invariant-loop-row l = l.lines ≡ map (λ row. row_line (shown_row (l.table.rows ∷ []) l.q.items ((row ∷ []) ∷ []) (row ∷ []))) (take l.row-index l.rows)
+invariant-loop-row l =
+    l.lines ≡ map (λ row. row_line (shown_row (l.table.rows ∷ []) l.q.items ((row ∷ []) ∷ []) (row ∷ [])))
+    (take l.row-index l.rows)

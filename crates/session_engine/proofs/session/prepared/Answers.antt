@@ -5,6 +5,7 @@ use Rattle.session_engine.proofs.session.prepared.Goals as goal
 
 pub overflow_cast-result-3 : goal.overflow_cast-result-3
 overflow_cast-result-3 c =
-    let e : length c.kinds.result.now ≡ length (kinds_of c.args.q.now.places c.args.q.now.preds) = ap length c.kinds.ensures.value in
+    let e : length c.kinds.result.now ≡ length (kinds_of c.args.q.now.places c.args.q.now.preds) =
+    ap length c.kinds.ensures.value in
     let f = few_kinds c.args.q.now c.kinds.ensures.sound in
     omega arith

@@ -20,13 +20,18 @@ returns-in-None-clause-none c =
 
 pub returns-in-Some-clause-found : goal.returns-in-Some-clause-found
 returns-in-Some-clause-found c =
-    sym (ap (λ (k : Catalog). option_map (λ (s : StatementState). s.statement) (slice_get k.statements c.in-Some.number)) c.self.view_is)
-    ∙ (statement_at c.self.inside.statements.entries c.in-Some.number ∙ (sym (value_at c.self.inside.statements.entries c.in-Some.number)
-    ∙ (c.in-Some.ensures.value ∙ (found_statement c.self.inside.statements.entries c.args.name.now ∙ ap (λ (k : Catalog). find_statement k.statements c.args.name.now) c.self.view_is))))
+    sym (ap (λ (k : Catalog). option_map (λ (s : StatementState). s.statement)
+    (slice_get k.statements c.in-Some.number)) c.self.view_is)
+    ∙ (statement_at c.self.inside.statements.entries c.in-Some.number
+    ∙ (sym (value_at c.self.inside.statements.entries c.in-Some.number)
+    ∙ (c.in-Some.ensures.value
+    ∙ (found_statement c.self.inside.statements.entries c.args.name.now
+    ∙ ap (λ (k : Catalog). find_statement k.statements c.args.name.now) c.self.view_is))))
 
 pub returns-in-Some-clause-within : goal.returns-in-Some-clause-within
 returns-in-Some-clause-within c =
     let l : length c.self.inside.statements.entries ≡ length c.args.self.now.statements =
-    sym (length-statements_in c.self.inside.statements.entries) ∙ ap (λ (k : Catalog). length k.statements) c.self.view_is in
+    sym (length-statements_in c.self.inside.statements.entries)
+    ∙ ap (λ (k : Catalog). length k.statements) c.self.view_is in
     let w : c.in-Some.number < length c.self.inside.statements.entries = c.in-Some.ensures.within in
     omega arith
