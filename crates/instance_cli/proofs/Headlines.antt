@@ -30,14 +30,19 @@ unfolding up_to
 longer limit bytes h = omega (arith, length-take (limit + 1) bytes)
 
 -- a file that was fetched whole is there with just these bytes
-fetched : (files : Option Files) (name into : List ℕ) (limit : ℕ) → Told files (λ fs. Gives fs name limit Got into) → length into ≤ limit → Told files (λ fs. fs name ≡ Some into)
-fetched files name into limit h small = told_map files (λ fs g. g.1 ∙ ap Some (sym (g.2 ∙ whole limit g.0 (rw g.2 at small)))) h
+fetched : (files : Option Files) (name into : List ℕ) (limit : ℕ) → Told files (λ fs. Gives fs name limit Got into)
+    → length into ≤ limit → Told files (λ fs. fs name ≡ Some into)
+fetched files name into limit h small =
+    told_map files (λ fs g. g.1 ∙ ap Some (sym (g.2 ∙ whole limit g.0 (rw g.2 at small)))) h
 
 -- a file that wasn't is longer than the limit
-fetched_long : (files : Option Files) (name into : List ℕ) (limit : ℕ) → Told files (λ fs. Gives fs name limit Got into) → limit < length into → Told files (λ fs. (bytes : List ℕ) × (fs name ≡ Some bytes) × (limit < length bytes))
+fetched_long : (files : Option Files) (name into : List ℕ) (limit : ℕ) → Told files (λ fs. Gives fs name limit Got into)
+    → limit < length into → Told files (λ fs. (bytes : List ℕ) × (fs name ≡ Some bytes) × (limit < length bytes))
 fetched_long files name into limit h long = told_map files (λ fs g. (g.0, g.1, longer limit g.0 (rw g.2 at long))) h
 
-fetched_bytes : (files : Option Files) (name into : List ℕ) (P : List ℕ → Type 0) → Told files (λ fs. fs name ≡ Some into) → P into → Told files (λ fs. (bytes : List ℕ) × (fs name ≡ Some bytes) × P bytes)
+fetched_bytes : (files : Option Files) (name into : List ℕ) (P : List ℕ → Type 0)
+    → Told files (λ fs. fs name ≡ Some into) → P into
+    → Told files (λ fs. (bytes : List ℕ) × (fs name ≡ Some bytes) × P bytes)
 fetched_bytes files name into P h p = told_map files (λ fs e. (into, e, p)) h
 
 -- the outside before the script was fetched, and after it
@@ -48,23 +53,29 @@ pub record Fetched (before middle : Outside) : Type 0 where
   pub faults : before.faults ≤ middle.faults
   pub sink_faults : before.sink_faults ≤ middle.sink_faults
 
-starts_before : (before middle : Outside) → Fetched before middle → (first : _) → Starts middle first → Starts before first
-starts_before before middle f first s = let m = f.misses in let n = s.misses in record { state = s.state; misses = omega arith }
+starts_before : (before middle : Outside) → Fetched before middle → (first : _) → Starts middle first
+    → Starts before first
+starts_before before middle f first s = let m = f.misses in let n = s.misses in
+    record { state = s.state; misses = omega arith }
 
-run_before : (bytes : List ℕ) (before middle after : Outside) (refused : Bool) → Fetched before middle → ReportsRun bytes middle after refused → ReportsRun bytes before after refused
+run_before : (bytes : List ℕ) (before middle after : Outside) (refused : Bool) → Fetched before middle
+    → ReportsRun bytes middle after refused → ReportsRun bytes before after refused
 run_before bytes before middle after refused f h = record {
   script = h.script;
   replies = h.replies;
   first = h.first;
   last = h.last;
   starts = starts_before before middle f h.first h.starts;
-  run = subst (λ (files : Option Files). IsChain (ServesLine files) h.first (spoken_lines (script_of bytes)) h.replies h.last) f.files h.run;
+  run = subst (λ (files : Option Files). IsChain (ServesLine files) h.first
+      (spoken_lines (script_of bytes)) h.replies h.last) f.files h.run;
   ends = h.ends;
-  took = subst (λ (old : Option (List ℕ)). Told old (λ taken. after.taken ≡ Some (taken ++ report_text (spoken_lines (script_of bytes)) h.replies))) f.taken h.took;
+  took = subst (λ (old : Option (List ℕ)). Told old
+      (λ taken. after.taken ≡ Some (taken ++ report_text (spoken_lines (script_of bytes)) h.replies))) f.taken h.took;
   status = h.status;
 }
 
-prefix_before : (bytes : List ℕ) (before middle after : Outside) (result : Status) → Fetched before middle → ReportsPrefix bytes middle after result → ReportsPrefix bytes before after result
+prefix_before : (bytes : List ℕ) (before middle after : Outside) (result : Status) → Fetched before middle
+    → ReportsPrefix bytes middle after result → ReportsPrefix bytes before after result
 prefix_before bytes before middle after result f h = record {
   script = h.script;
   done = h.done;
@@ -78,20 +89,25 @@ prefix_before bytes before middle after result f h = record {
   starts = starts_before before middle f h.first h.starts;
   run = subst (λ (files : Option Files). IsChain (ServesLine files) h.first h.done h.replies h.middle) f.files h.run;
   ends = h.ends;
-  goes_on = subst (λ (files : Option Files). IsChain (ServesLine files) h.middle h.rest h.others h.last) f.files h.goes_on;
+  goes_on = subst (λ (files : Option Files). IsChain (ServesLine files) h.middle h.rest h.others h.last) f.files
+      h.goes_on;
   cut = h.cut;
-  took = subst (λ (old : Option (List ℕ)). Told old (λ taken. after.taken ≡ Some (taken ++ (report_text h.done h.replies ++ h.cut)))) f.taken h.took;
+  took = subst (λ (old : Option (List ℕ)). Told old
+      (λ taken. after.taken ≡ Some (taken ++ (report_text h.done h.replies ++ h.cut)))) f.taken h.took;
   next = h.next;
 }
 
-nothing_before : (before middle after : Outside) → Fetched before middle → TookNothing middle after → TookNothing before after
-nothing_before before middle after f h = subst (λ (old : Option (List ℕ)). Told old (λ taken. after.taken ≡ Some taken)) f.taken h
+nothing_before : (before middle after : Outside) → Fetched before middle → TookNothing middle after
+    → TookNothing before after
+nothing_before before middle after f h =
+    subst (λ (old : Option (List ℕ)). Told old (λ taken. after.taken ≡ Some taken)) f.taken h
 
 either : {P Q R S : Type 0} → (P → R) → (Q → S) → P ⊎ Q → R ⊎ S
 either f g (inl p) = inl (f p)
 either f g (inr q) = inr (g q)
 
-one_of_three : {P : Type 0} (r a b c : Status) → (r ≡ a) ⊎ (r ≡ b) ⊎ (r ≡ c) → (r ≡ a → P) → (r ≡ b → P) → (r ≡ c → P) → P
+one_of_three : {P : Type 0} (r a b c : Status) → (r ≡ a) ⊎ (r ≡ b) ⊎ (r ≡ c) → (r ≡ a → P) → (r ≡ b → P) → (r ≡ c → P)
+    → P
 one_of_three r a b c (inl e) f g h = f e
 one_of_three r a b c (inr (inl e)) f g h = g e
 one_of_three r a b c (inr (inr e)) f g h = h e
@@ -100,30 +116,45 @@ one_of_three r a b c (inr (inr e)) f g h = h e
 other : (r s t : Status) → r ≡ s → (s ≡ t → ⊥) → r ≢ t
 other r s t e differ k = differ (sym e ∙ k)
 
-cut_is_short : (r : Status) → (r ≡ status.ReadFault) ⊎ (r ≡ status.WriteFault) ⊎ (r ≡ status.Memory) → r ≢ status.TooLong
-cut_is_short r s = one_of_three r status.ReadFault status.WriteFault status.Memory s (λ e. other r _ _ e (λ k. cc)) (λ e. other r _ _ e (λ k. cc)) (λ e. other r _ _ e (λ k. cc))
+cut_is_short : (r : Status) → (r ≡ status.ReadFault) ⊎ (r ≡ status.WriteFault) ⊎ (r ≡ status.Memory)
+    → r ≢ status.TooLong
+cut_is_short r s = one_of_three r status.ReadFault status.WriteFault status.Memory s (λ e. other r _ _ e (λ k. cc))
+    (λ e. other r _ _ e (λ k. cc)) (λ e. other r _ _ e (λ k. cc))
 
 -- The script was got.
-pub got : (name bytes : List ℕ) (before middle after : Outside) (result : Status) → Told before.files (λ fs. Gives fs name SCRIPT_LIMIT Got bytes) → Fetched before middle → RunsBytes bytes middle after result → Headline name before after result
+pub got : (name bytes : List ℕ) (before middle after : Outside) (result : Status)
+    → Told before.files (λ fs. Gives fs name SCRIPT_LIMIT Got bytes) → Fetched before middle
+    → RunsBytes bytes middle after result → Headline name before after result
 got name bytes before middle after result gives f run =
-    let there : result ≢ status.TooLong → Told before.files (λ fs. fs name ≡ Some bytes) = λ h. fetched before.files name bytes SCRIPT_LIMIT gives (run.short h) in
+    let there : result ≢ status.TooLong → Told before.files (λ fs. fs name ≡ Some bytes) =
+    λ h. fetched before.files name bytes SCRIPT_LIMIT gives (run.short h) in
     record {
       done = λ e. (bytes, there (other result _ _ e (λ k. cc)), run_before bytes before middle after _ f (run.done e));
-      refused = λ e. (bytes, there (other result _ _ e (λ k. cc)), run_before bytes before middle after _ f (run.refused e));
+      refused = λ e. (
+        bytes,
+        there (other result _ _ e (λ k. cc)),
+        run_before bytes before middle after _ f
+            (run.refused e),
+      );
       missing = λ e. absurd (run.missing e);
       read_fault = λ e. let r = run.read_fault e in let m = f.faults in omega arith;
       write_fault = λ e. let r = run.write_fault e in let m = f.sink_faults in omega arith;
       too_long = λ e. fetched_long before.files name bytes SCRIPT_LIMIT gives (run.too_long e);
-      not_text = λ e. fetched_bytes before.files name bytes (λ b. (length b ≤ SCRIPT_LIMIT) × ¬ IsUtf8 (script_of b)) (there (other result _ _ e (λ k. cc))) (run.not_text e);
+      not_text = λ e. fetched_bytes before.files name bytes (λ b. (length b ≤ SCRIPT_LIMIT) × ¬ IsUtf8 (script_of b))
+          (there (other result _ _ e (λ k. cc))) (run.not_text e);
       usage = run.usage;
       rejected = run.rejected;
       bad_weights = run.bad_weights;
-      nothing = λ s. one_of_three result status.Missing status.TooLong status.NotText s (λ e. absurd (run.missing e)) (λ e. run.nothing (inl e) ∙ f.taken) (λ e. run.nothing (inr e) ∙ f.taken);
-      prefix = λ s. either (nothing_before before middle after f) (λ h. (bytes, there (cut_is_short result s), prefix_before bytes before middle after result f h)) (run.prefix s);
+      nothing = λ s. one_of_three result status.Missing status.TooLong status.NotText s (λ e. absurd (run.missing e))
+          (λ e. run.nothing (inl e) ∙ f.taken) (λ e. run.nothing (inr e) ∙ f.taken);
+      prefix = λ s. either (nothing_before before middle after f)
+          (λ h. (bytes, there (cut_is_short result s), prefix_before bytes before middle after result f h))
+          (run.prefix s);
     }
 
 -- It wasn't there.
-pub missing : (name : List ℕ) (before after : Outside) → Told before.files (λ fs. fs name ≡ None) → Rose before.misses after.misses → after.taken ≡ before.taken → Headline name before after status.Missing
+pub missing : (name : List ℕ) (before after : Outside) → Told before.files (λ fs. fs name ≡ None)
+    → Rose before.misses after.misses → after.taken ≡ before.taken → Headline name before after status.Missing
 missing name before after none rose same = record {
   done = λ e. absurd cc;
   refused = λ e. absurd cc;
@@ -136,11 +167,13 @@ missing name before after none rose same = record {
   rejected = λ e. cc;
   bad_weights = λ e. cc;
   nothing = λ s. same;
-  prefix = λ s. one_of_three status.Missing status.ReadFault status.WriteFault status.Memory s (λ e. absurd cc) (λ e. absurd cc) (λ e. absurd cc);
+  prefix = λ s. one_of_three status.Missing status.ReadFault status.WriteFault status.Memory s (λ e. absurd cc)
+      (λ e. absurd cc) (λ e. absurd cc);
 }
 
 -- The shelf failed.
-pub failed : (name : List ℕ) (before after : Outside) → Rose before.faults after.faults → after.taken ≡ before.taken → Headline name before after status.ReadFault
+pub failed : (name : List ℕ) (before after : Outside) → Rose before.faults after.faults → after.taken ≡ before.taken
+    → Headline name before after status.ReadFault
 failed name before after rose same = record {
   done = λ e. absurd cc;
   refused = λ e. absurd cc;
@@ -157,7 +190,8 @@ failed name before after rose same = record {
 }
 
 -- Memory was short.
-pub short : (name : List ℕ) (before after : Outside) → after.taken ≡ before.taken → Headline name before after status.Memory
+pub short : (name : List ℕ) (before after : Outside) → after.taken ≡ before.taken
+    → Headline name before after status.Memory
 short name before after same = record {
   done = λ e. absurd cc;
   refused = λ e. absurd cc;

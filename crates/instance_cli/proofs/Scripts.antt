@@ -49,13 +49,16 @@ abbrev AreSpoken : List Line → Type 0
 AreSpoken [] = Unit {0}
 AreSpoken (line ∷ lines) = (is_silent (reading_of line.text) ≡ false) × AreSpoken lines
 
-spoken_one : (b : Bool) (l : Line) (xs : List Line) → (b ≡ false → is_silent (reading_of l.text) ≡ false) → AreSpoken xs → AreSpoken (if b then xs else l ∷ xs)
+spoken_one : (b : Bool) (l : Line) (xs : List Line) → (b ≡ false → is_silent (reading_of l.text) ≡ false) → AreSpoken xs
+    → AreSpoken (if b then xs else l ∷ xs)
 spoken_one true l xs f h = h
 spoken_one false l xs f h = (f refl, h)
 
 spoken_all : (n : ℕ) (texts : List (List ℕ)) → AreSpoken (spoken_from n texts)
 spoken_all n [] = tt
-spoken_all n (x ∷ xs) = spoken_one (is_silent (reading_of x)) (record { number = n; text = x }) (spoken_from (n + 1) xs) (λ e. e) (spoken_all (n + 1) xs)
+spoken_all n (x ∷ xs) =
+    spoken_one (is_silent (reading_of x)) (record { number = n; text = x }) (spoken_from (n + 1) xs) (λ e. e)
+    (spoken_all (n + 1) xs)
 
 spoken_rest : (xs ys : List Line) → AreSpoken (xs ++ ys) → AreSpoken ys
 spoken_rest [] ys h = h
@@ -66,7 +69,8 @@ file_told : Option Files → Reading → Option (List ℕ)
 file_told None reading = None
 file_told (Some files) reading = file_of files reading
 
-is_told : (files : Option Files) (reading : Reading) → Told files (λ told. file_told files reading ≡ file_of told reading)
+is_told : (files : Option Files) (reading : Reading)
+    → Told files (λ told. file_told files reading ≡ file_of told reading)
 unfolding file_told
 is_told None reading = tt
 is_told (Some files) reading = refl
@@ -77,9 +81,12 @@ missed_later None None misses = tt
 missed_later None (Some name) misses = omega arith
 
 -- a line that gets a reply can be served
-served : (files : Option Files) (before : Moment) (line : Line) → IsSession before.state → is_silent (reading_of line.text) ≡ false → (reply : Reply) × (after : Moment) × ServesLine files before line reply after
+served : (files : Option Files) (before : Moment) (line : Line) → IsSession before.state
+    → is_silent (reading_of line.text) ≡ false → (reply : Reply) × (after : Moment)
+    × ServesLine files before line reply after
 served files before line session spoken =
-    let one : CanStep before.state (reading_of line.text) (file_told files (reading_of line.text)) = goes_on before.state (reading_of line.text) (file_told files (reading_of line.text)) session spoken in (
+    let one : CanStep before.state (reading_of line.text) (file_told files (reading_of line.text)) =
+    goes_on before.state (reading_of line.text) (file_told files (reading_of line.text)) session spoken in (
       one.0,
       record { state = one.1; misses = before.misses + last_count },
       record {
@@ -94,11 +101,14 @@ served files before line session spoken =
 abbrev InSession : Moment → Type 0
 InSession moment = IsSession moment.state
 
-serving_keeps : (files : Option Files) (before : Moment) (line : Line) (reply : Reply) (after : Moment) → InSession before → ServesLine files before line reply after → InSession after
-serving_keeps files before line reply after session serves = kept before.state (reading_of line.text) serves.file reply after.state session serves.step
+serving_keeps : (files : Option Files) (before : Moment) (line : Line) (reply : Reply) (after : Moment)
+    → InSession before → ServesLine files before line reply after → InSession after
+serving_keeps files before line reply after session serves =
+    kept before.state (reading_of line.text) serves.file reply after.state session serves.step
 
 -- from each moment of a session the lines that get a reply can be served
-serve_on : (files : Option Files) (before : Moment) (ls : List Line) → InSession before → AreSpoken ls → (replies : List Reply) × (last : Moment) × IsChain (ServesLine files) before ls replies last
+serve_on : (files : Option Files) (before : Moment) (ls : List Line) → InSession before → AreSpoken ls
+    → (replies : List Reply) × (last : Moment) × IsChain (ServesLine files) before ls replies last
 serve_on files before [] session spoken = ([], before, refl)
 serve_on files before (line ∷ ls) session spoken =
     let one = served files before line session spoken.0 in
@@ -106,22 +116,27 @@ serve_on files before (line ∷ ls) session spoken =
     (one.0 ∷ more.0, more.1, (one.1, one.2, more.2))
 
 -- and they go on as the cut says
-record GoesOn (files : Option Files) (middle : Moment) (rest : List Line) (result : Status) (cut : List ℕ) : Type 0 where
+record GoesOn (files : Option Files) (middle : Moment) (rest : List Line) (result : Status)
+    (cut : List ℕ) : Type 0 where
   others : List Reply
   last : Moment
   run : IsChain (ServesLine files) middle rest others last
   next : EndsWith result rest others cut
 
-after_write : (files : Option Files) (middle : Moment) (rest : List Line) (cut : List ℕ) → InSession middle → AreSpoken rest → WritesInPart files middle rest cut → GoesOn files middle rest status.WriteFault cut
+after_write : (files : Option Files) (middle : Moment) (rest : List Line) (cut : List ℕ) → InSession middle
+    → AreSpoken rest → WritesInPart files middle rest cut → GoesOn files middle rest status.WriteFault cut
 after_write files middle [] cut session spoken h = absurd h
 after_write files middle (line ∷ ls) cut session spoken h =
     let more = serve_on files h.1 ls (serving_keeps files middle line h.0 h.1 session h.2) spoken.1 in
     record { others = h.0 ∷ more.0; last = more.1; run = (h.1, h.2, more.2); next = (h.3, h.4) }
 
-after_cut : (result : Status) (files : Option Files) (middle : Moment) (rest : List Line) (cut : List ℕ) → InSession middle → AreSpoken rest → Stops result files middle rest cut → GoesOn files middle rest result cut
-after_cut status.ReadFault files middle rest cut session spoken h = let more = serve_on files middle rest session spoken in record { others = more.0; last = more.1; run = more.2; next = h }
+after_cut : (result : Status) (files : Option Files) (middle : Moment) (rest : List Line) (cut : List ℕ)
+    → InSession middle → AreSpoken rest → Stops result files middle rest cut → GoesOn files middle rest result cut
+after_cut status.ReadFault files middle rest cut session spoken h = let more =
+    serve_on files middle rest session spoken in record { others = more.0; last = more.1; run = more.2; next = h }
 after_cut status.WriteFault files middle rest cut session spoken h = after_write files middle rest cut session spoken h
-after_cut status.Memory files middle rest cut session spoken h = let more = serve_on files middle rest session spoken in record { others = more.0; last = more.1; run = more.2; next = h }
+after_cut status.Memory files middle rest cut session spoken h = let more = serve_on files middle rest session spoken in
+    record { others = more.0; last = more.1; run = more.2; next = h }
 after_cut status.Done files middle rest cut session spoken h = absurd h
 after_cut status.DoneRefused files middle rest cut session spoken h = absurd h
 after_cut status.Usage files middle rest cut session spoken h = absurd h
@@ -134,7 +149,8 @@ after_cut status.BadWeights files middle rest cut session spoken h = absurd h
 -- Scripts.
 
 -- the whole script was run
-whole : (bytes : List ℕ) (before after : Outside) (refused : Bool) → IsScript bytes → RunsWhole (lines (script_of bytes)) before after refused → ReportsRun bytes before after refused
+whole : (bytes : List ℕ) (before after : Outside) (refused : Bool) → IsScript bytes
+    → RunsWhole (lines (script_of bytes)) before after refused → ReportsRun bytes before after refused
 whole bytes before after refused script h = record {
   script = script;
   replies = h.2.replies;
@@ -148,10 +164,14 @@ whole bytes before after refused script h = record {
 }
 
 -- it was cut short
-cut_short : (bytes : List ℕ) (before after : Outside) (result : Status) → IsScript bytes → RunsInPart (lines (script_of bytes)) before after result → ReportsPrefix bytes before after result
+cut_short : (bytes : List ℕ) (before after : Outside) (result : Status) → IsScript bytes
+    → RunsInPart (lines (script_of bytes)) before after result → ReportsPrefix bytes before after result
 cut_short bytes before after result script h =
-    let session : InSession h.middle = keeps (ServesLine before.files) InSession (serving_keeps before.files) (first_moment before.misses) h.done h.replies h.middle (first default_settings) h.run in
-    let spoken : AreSpoken h.rest = spoken_rest h.done h.rest (subst AreSpoken h.parts (spoken_all 1 (lines (script_of bytes)))) in
+    let session : InSession h.middle =
+    keeps (ServesLine before.files) InSession (serving_keeps before.files)
+    (first_moment before.misses) h.done h.replies h.middle (first default_settings) h.run in
+    let spoken : AreSpoken h.rest =
+    spoken_rest h.done h.rest (subst AreSpoken h.parts (spoken_all 1 (lines (script_of bytes)))) in
     let g = after_cut result before.files h.middle h.rest h.cut session spoken h.next in
     record {
       script = script;
@@ -180,17 +200,20 @@ same_taken (Some taken) new e = e
 abbrev IsCut : Status → Type 0
 IsCut result = (result ≡ status.ReadFault) ⊎ (result ≡ status.WriteFault) ⊎ (result ≡ status.Memory)
 
-by_cut : {P : Type 0} (result : Status) → IsCut result → (result ≡ status.ReadFault → P) → (result ≡ status.WriteFault → P) → (result ≡ status.Memory → P) → P
+by_cut : {P : Type 0} (result : Status) → IsCut result → (result ≡ status.ReadFault → P)
+    → (result ≡ status.WriteFault → P) → (result ≡ status.Memory → P) → P
 by_cut result (inl e) read write memory = read e
 by_cut result (inr (inl e)) read write memory = write e
 by_cut result (inr (inr e)) read write memory = memory e
 
-by_unread : {P : Type 0} (result : Status) → (result ≡ status.TooLong) ⊎ (result ≡ status.NotText) → (result ≡ status.TooLong → P) → (result ≡ status.NotText → P) → P
+by_unread : {P : Type 0} (result : Status) → (result ≡ status.TooLong) ⊎ (result ≡ status.NotText)
+    → (result ≡ status.TooLong → P) → (result ≡ status.NotText → P) → P
 by_unread result (inl e) long text = long e
 by_unread result (inr e) long text = text e
 
 -- a script that is too long
-pub long_bytes : (bytes : List ℕ) (before after : Outside) → SCRIPT_LIMIT < length bytes → after.taken ≡ before.taken → RunsBytes bytes before after status.TooLong
+pub long_bytes : (bytes : List ℕ) (before after : Outside) → SCRIPT_LIMIT < length bytes → after.taken ≡ before.taken
+    → RunsBytes bytes before after status.TooLong
 long_bytes bytes before after long same = record {
   done = λ e. absurd cc;
   refused = λ e. absurd cc;
@@ -208,7 +231,8 @@ long_bytes bytes before after long same = record {
 }
 
 -- one that is no text
-pub no_text : (bytes : List ℕ) (before after : Outside) → length bytes ≤ SCRIPT_LIMIT → ¬ IsUtf8 (script_of bytes) → after.taken ≡ before.taken → RunsBytes bytes before after status.NotText
+pub no_text : (bytes : List ℕ) (before after : Outside) → length bytes ≤ SCRIPT_LIMIT → ¬ IsUtf8 (script_of bytes)
+    → after.taken ≡ before.taken → RunsBytes bytes before after status.NotText
 no_text bytes before after short not_utf8 same = record {
   done = λ e. absurd cc;
   refused = λ e. absurd cc;
@@ -226,7 +250,8 @@ no_text bytes before after short not_utf8 same = record {
 }
 
 -- memory was short before the first line
-pub no_memory : (bytes : List ℕ) (before after : Outside) → length bytes ≤ SCRIPT_LIMIT → after.taken ≡ before.taken → RunsBytes bytes before after status.Memory
+pub no_memory : (bytes : List ℕ) (before after : Outside) → length bytes ≤ SCRIPT_LIMIT → after.taken ≡ before.taken
+    → RunsBytes bytes before after status.Memory
 no_memory bytes before after short same = record {
   done = λ e. absurd cc;
   refused = λ e. absurd cc;
@@ -243,13 +268,16 @@ no_memory bytes before after short same = record {
   prefix = λ s. inl (same_taken before.taken after.taken same);
 }
 
-ends_at : (r s : Status) (texts : List (List ℕ)) (before after : Outside) → r ≡ s → EndsBy r texts before after → EndsBy s texts before after
+ends_at : (r s : Status) (texts : List (List ℕ)) (before after : Outside) → r ≡ s → EndsBy r texts before after
+    → EndsBy s texts before after
 ends_at r s texts before after e h = subst (λ (x : Status). EndsBy x texts before after) e h
 
 -- its lines were run
-pub bytes_run : (bytes : List ℕ) (texts : List (List ℕ)) (before after : Outside) (result : Status) → IsScript bytes → texts ≡ lines (script_of bytes) → RunsLines texts before after result → RunsBytes bytes before after result
+pub bytes_run : (bytes : List ℕ) (texts : List (List ℕ)) (before after : Outside) (result : Status) → IsScript bytes
+    → texts ≡ lines (script_of bytes) → RunsLines texts before after result → RunsBytes bytes before after result
 bytes_run bytes texts before after result script same run =
-    let ends : EndsBy result (lines (script_of bytes)) before after = subst (λ (ts : List (List ℕ)). EndsBy result ts before after) same run.ends in
+    let ends : EndsBy result (lines (script_of bytes)) before after =
+    subst (λ (ts : List (List ℕ)). EndsBy result ts before after) same run.ends in
     record {
       done = λ e. whole bytes before after false script (ends_at result status.Done _ before after e ends);
       refused = λ e. whole bytes before after true script (ends_at result status.DoneRefused _ before after e ends);
@@ -262,15 +290,23 @@ bytes_run bytes texts before after result script same run =
       missing = λ e. ends_at result status.Missing _ before after e ends;
       rejected = λ e. ends_at result status.Rejected _ before after e ends;
       bad_weights = λ e. ends_at result status.BadWeights _ before after e ends;
-      nothing = λ s. by_unread result s (λ e. absurd (ends_at result status.TooLong _ before after e ends)) (λ e. absurd (ends_at result status.NotText _ before after e ends));
+      nothing = λ s. by_unread result s (λ e. absurd (ends_at result status.TooLong _ before after e ends))
+          (λ e. absurd (ends_at result status.NotText _ before after e ends));
       prefix = λ s. inr (by_cut result s
-          (λ e. subst (ReportsPrefix bytes before after) (sym e) (cut_short bytes before after status.ReadFault script (ends_at result status.ReadFault _ before after e ends)))
-          (λ e. subst (ReportsPrefix bytes before after) (sym e) (cut_short bytes before after status.WriteFault script (ends_at result status.WriteFault _ before after e ends)))
-          (λ e. subst (ReportsPrefix bytes before after) (sym e) (cut_short bytes before after status.Memory script (ends_at result status.Memory _ before after e ends))));
+          (λ e. subst (ReportsPrefix bytes before after) (sym e)
+          (cut_short bytes before after status.ReadFault script
+          (ends_at result status.ReadFault _ before after e ends)))
+          (λ e. subst (ReportsPrefix bytes before after) (sym e)
+          (cut_short bytes before after status.WriteFault script
+          (ends_at result status.WriteFault _ before after e ends)))
+          (λ e. subst (ReportsPrefix bytes before after) (sym e)
+          (cut_short bytes before after status.Memory script
+          (ends_at result status.Memory _ before after e ends))));
     }
 
 -- by which status lines were served in part
-pub in_part : (result : Status) (texts : List (List ℕ)) (before after : Outside) → RunsInPart texts before after result → EndsBy result texts before after
+pub in_part : (result : Status) (texts : List (List ℕ)) (before after : Outside) → RunsInPart texts before after result
+    → EndsBy result texts before after
 in_part status.ReadFault texts before after h = h
 in_part status.WriteFault texts before after h = h
 in_part status.Memory texts before after h = h

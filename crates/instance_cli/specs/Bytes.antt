@@ -26,7 +26,8 @@ RunsWhole texts before after refused = (last : Moment) × (last.misses ≤ after
 -- the first of them were
 abbrev pub RunsInPart : List (List ℕ) → Outside → Outside → Status → Type 0
 RunsInPart texts before after result =
-    ReportedInPart before.files before.taken after.taken (first_moment before.misses) (spoken_from 1 texts) after.misses result
+    ReportedInPart before.files before.taken after.taken (first_moment before.misses)
+    (spoken_from 1 texts) after.misses result
 
 -- the lines of these texts were run
 abbrev pub EndsBy : Status → List (List ℕ) → Outside → Outside → Type 0

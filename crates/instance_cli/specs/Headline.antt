@@ -30,7 +30,8 @@ pub record Headline (name : List ℕ) (before after : Outside) (result : Status)
   -- with status 1 the same, and some line was refused
   pub refused : result ≡ status.DoneRefused → OfScript name before.files (λ bytes. ReportsRun bytes before after true)
   -- with status 3 the script isn't there, and the shelf missed it
-  pub missing : result ≡ status.Missing → Told before.files (λ files. files name ≡ None) × Rose before.misses after.misses
+  pub missing : result ≡ status.Missing → Told before.files (λ files. files name ≡ None)
+      × Rose before.misses after.misses
   -- with status 4 the shelf failed, with status 5 the sink
   pub read_fault : result ≡ status.ReadFault → Rose before.faults after.faults
   pub write_fault : result ≡ status.WriteFault → Rose before.sink_faults after.sink_faults
@@ -43,7 +44,8 @@ pub record Headline (name : List ℕ) (before after : Outside) (result : Status)
   pub rejected : result ≡ status.Rejected → ⊥
   pub bad_weights : result ≡ status.BadWeights → ⊥
   -- with 3, 7 and 8 nothing was taken
-  pub nothing : (result ≡ status.Missing) ⊎ (result ≡ status.TooLong) ⊎ (result ≡ status.NotText) → after.taken ≡ before.taken
+  pub nothing : (result ≡ status.Missing) ⊎ (result ≡ status.TooLong) ⊎ (result ≡ status.NotText)
+      → after.taken ≡ before.taken
   -- with 4, 5 and 6 nothing, or whole replies of a run of the script and then what `EndsWith` says of the next one
   pub prefix : (result ≡ status.ReadFault) ⊎ (result ≡ status.WriteFault) ⊎ (result ≡ status.Memory) →
       TookNothing before after ⊎ OfScript name before.files (λ bytes. ReportsPrefix bytes before after result)

@@ -15,7 +15,8 @@ Answers files before reading None after = (is_silent reading ≡ true) × (after
 Answers files before reading (Some reply) after = (is_silent reading ≡ false) × Serves files before reading reply after
 
 -- the lines were served, their report was taken, and some reply is a refusal or none
-pub record Reported (files : Option Files) (old new : Option (List ℕ)) (first : Moment) (lines : List Line) (last : Moment) (refused : Bool) : Type 0 where
+pub record Reported (files : Option Files) (old new : Option (List ℕ)) (first : Moment) (lines : List Line)
+    (last : Moment) (refused : Bool) : Type 0 where
   pub replies : List Reply
   pub run : IsChain (ServesLine files) first lines replies last
   pub took : Told old (λ taken. new ≡ Some (taken ++ report_text lines replies))
@@ -43,7 +44,8 @@ Stops status.Rejected files before lines cut = ⊥
 Stops status.BadWeights files before lines cut = ⊥
 
 -- the first of the lines were served and their report was taken, and this much of the next reply
-pub record ReportedInPart (files : Option Files) (old new : Option (List ℕ)) (first : Moment) (lines : List Line) (misses : ℕ) (result : Status) : Type 0 where
+pub record ReportedInPart (files : Option Files) (old new : Option (List ℕ)) (first : Moment) (lines : List Line)
+    (misses : ℕ) (result : Status) : Type 0 where
   pub done : List Line
   pub rest : List Line
   pub parts : lines ≡ done ++ rest

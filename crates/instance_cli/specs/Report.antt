@@ -31,7 +31,8 @@ IsMissed None (Some name) before after = Rose before after
 
 -- a line that says this was served: the reply is its step over a file or none, which is the one of the files where they
 -- are told, and is missing only where misses rose meanwhile
-pub record Serves (files : Option Files) (before : Moment) (reading : Reading) (reply : Reply) (after : Moment) : Type 0 where
+pub record Serves (files : Option Files) (before : Moment) (reading : Reading) (reply : Reply)
+    (after : Moment) : Type 0 where
   pub file : Option (List ℕ)
   pub step : Step before.state reading file reply after.state
   pub told : Told files (λ told. file ≡ file_of told reading)

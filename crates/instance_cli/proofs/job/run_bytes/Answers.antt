@@ -14,4 +14,5 @@ returns-in-Ok-split g c =
     let text : c.in-Ok.text.now ≡ script_of c.args.bytes.now = search rules in
     let utf8 : IsUtf8 (script_of c.args.bytes.now) = rw (← c.script_of.ensures) c.in-Ok.ensures.cases.1 in
     let texts : now_of c.as_slice.result.now ≡ lines c.in-Ok.text.now = search rules in
-    bytes_run c.args.bytes.now _ _ _ _ (record { short = c.if-bytes-gt-SCRIPT_LIMIT.false; utf8 = utf8 }) (texts ∙ ap lines text) c.run_lines.ensures
+    bytes_run c.args.bytes.now _ _ _ _ (record { short = c.if-bytes-gt-SCRIPT_LIMIT.false; utf8 = utf8 })
+    (texts ∙ ap lines text) c.run_lines.ensures

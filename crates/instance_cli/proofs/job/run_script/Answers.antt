@@ -7,7 +7,8 @@ use Rattle.instance_cli.proofs.Headlines.{got, missing, failed, short}
 use Rattle.instance_cli.proofs.job.run_script.Goals as goal
 
 pub returns-in-Missing : goal.returns-in-Missing
-returns-in-Missing g c = missing c.args.name.now _ _ c.in-Missing.ensures.fetches.gives (c.in-Missing.ensures.fetches.missing refl) refl
+returns-in-Missing g c =
+    missing c.args.name.now _ _ c.in-Missing.ensures.fetches.gives (c.in-Missing.ensures.fetches.missing refl) refl
 
 pub returns-in-Failed : goal.returns-in-Failed
 returns-in-Failed g c = failed c.args.name.now _ _ (c.in-Failed.ensures.fetches.failed refl) refl
@@ -19,6 +20,14 @@ pub returns : goal.returns
 returns g c =
     let files = g.F.Shelf.files c.args.shelf.now in
     let gives : Told files (λ fs. Gives fs c.args.name.now SCRIPT_LIMIT Got c.as_slice.result.now) =
-    subst (λ (b : List ℕ). Told files (λ fs. Gives fs c.args.name.now SCRIPT_LIMIT Got b)) (sym c.as_slice.ensures.value) c.in-Got.ensures.fetches.gives in
+    subst (λ (b : List ℕ). Told files (λ fs. Gives fs c.args.name.now SCRIPT_LIMIT Got b))
+    (sym c.as_slice.ensures.value) c.in-Got.ensures.fetches.gives in
     got c.args.name.now c.as_slice.result.now _ _ _ _ gives
-    (record { files = c.fetch.ensures.files; taken = refl; misses = c.in-Got.ensures.fetches.misses; faults = c.in-Got.ensures.fetches.faults; sink_faults = omega arith }) c.run_bytes.ensures
+    (record {
+      files = c.fetch.ensures.files;
+      taken = refl;
+      misses = c.in-Got.ensures.fetches.misses;
+      faults =
+          c.in-Got.ensures.fetches.faults;
+      sink_faults = omega arith;
+    }) c.run_bytes.ensures

@@ -3,4 +3,5 @@ use Rattle.std.proofs.lemmas.Iterator.Splits.{YieldsList-from_lines}
 use Rattle.instance_cli.proofs.job.split.Goals as goal
 
 pub returns-clause-value : goal.returns-clause-value
-returns-clause-value c = map_from_collect _ c.collect.ensures.ran (YieldsList-from_lines c.args.text.now c.lines.ensures.rest)
+returns-clause-value c =
+    map_from_collect _ c.collect.ensures.ran (YieldsList-from_lines c.args.text.now c.lines.ensures.rest)

@@ -17,7 +17,9 @@ loop-i-init g c =
       counted = omega arith;
       shelf_faults = omega arith;
       sink_faults = omega arith;
-      told = none_reported _ _ _ _ (ap (λ (s : State). let m : Moment = record { state = s; misses = g.F.Shelf.misses c.args.shelf.now } in m) state);
+      told = none_reported _ _ _ _
+          (ap (λ (s : State). let m : Moment = record { state = s; misses = g.F.Shelf.misses c.args.shelf.now } in m)
+          state);
     }
 
 pub loop-i-preserved : goal.loop-i-preserved
@@ -26,8 +28,11 @@ loop-i-preserved g c = record {
   counted = omega arith;
   shelf_faults = omega arith;
   sink_faults = omega arith;
-  told = lines_next _ _ _ _ _ c.args.lines.now c.loop-i.i _ _ _ _ _ _ _ (omega arith) c.loop-i.invariant.same c.loop-i.invariant.told c.in-Ok.ensures.ok c.either-refused.ensures;
+  told = lines_next _ _ _ _ _ c.args.lines.now c.loop-i.i _ _ _ _ _ _ _
+      (omega arith) c.loop-i.invariant.same c.loop-i.invariant.told c.in-Ok.ensures.ok c.either-refused.ensures;
 }
 
 pub returns-in-Err-clause-err : goal.returns-in-Err-clause-err
-returns-in-Err-clause-err g c = part_next _ _ _ _ _ c.args.lines.now c.loop-i.i _ _ _ _ _ _ (omega arith) c.loop-i.invariant.same c.loop-i.invariant.told c.in-Err.ensures.err
+returns-in-Err-clause-err g c =
+    part_next _ _ _ _ _ c.args.lines.now c.loop-i.i _ _ _ _ _ _
+    (omega arith) c.loop-i.invariant.same c.loop-i.invariant.told c.in-Err.ensures.err

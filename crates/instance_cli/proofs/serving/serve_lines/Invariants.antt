@@ -19,5 +19,6 @@ invariant-loop-i g l =
       counted : l.engine.steps ≤ l.i;
       shelf_faults : g.F.Shelf.faults l.fn.shelf ≤ g.F.Shelf.faults l.shelf;
       sink_faults : g.K.Sink.faults l.fn.sink ≤ g.K.Sink.faults l.sink;
-      told : Reported (files l.fn.shelf) (taken l.fn.sink) (taken l.sink) first (spoken_from 1 (map (λ line. line.now) (take l.i l.lines))) last l.refused;
+      told : Reported (files l.fn.shelf) (taken l.fn.sink) (taken l.sink) first
+          (spoken_from 1 (map (λ line. line.now) (take l.i l.lines))) last l.refused;
     }
