@@ -70,7 +70,7 @@ differ_by true t ts name version e h later = h
 differ_by false t ts name version e h later =
     let p = and_parts (not (is_known t.name (schemas_of ts))) (names_differ (schemas_of ts)) h in
     let k : is_known t.name (schemas_of (put_version ts name version)) ≡ false =
-        known_put ts name t.name version e (not_true _ p.0) in
+    known_put ts name t.name version e (not_true _ p.0) in
     and_join _ _ (ap not k) (later p.1)
 
 -- no name stands twice
@@ -88,7 +88,7 @@ new_statement name q = record { name = name; statement = q }
 behind_by : (test : Bool) (p : StatementState) (ps : List StatementState) (name other : List ℕ) (q : Statement)
     → bytes_eq name other ≡ false → (test || is_prepared other ps) ≡ false →
     (is_prepared other ps ≡ false → is_prepared other (ps ++ new_statement name q ∷ []) ≡ false)
-        → (test || is_prepared other (ps ++ new_statement name q ∷ [])) ≡ false
+    → (test || is_prepared other (ps ++ new_statement name q ∷ [])) ≡ false
 behind_by test p ps name other q o h later = let r = or_parts test (is_prepared other ps) h in
     or_join test _ r.0 (later r.1)
 
@@ -123,7 +123,7 @@ same_kind Text Text h = refl
 same_column : (x y : Column) → x.name ≡ y.name → x.kind ≡ y.kind → x ≡ y
 same_column x y p q =
     let a : x ≡ record { name = y.name; kind = x.kind } =
-        ap (λ n. let c : Column = record { name = n; kind = x.kind } in c) p in
+    ap (λ n. let c : Column = record { name = n; kind = x.kind } in c) p in
     a ∙ ap (λ k. let c : Column = record { name = y.name; kind = k } in c) q
 
 same_columns : (xs ys : List Column) → are_same_columns xs ys ≡ true → xs ≡ ys
@@ -134,7 +134,7 @@ same_columns (x ∷ xs) (y ∷ ys) h =
     let p = and_parts (bytes_eq x.name y.name && is_same_kind x.kind y.kind) (are_same_columns xs ys) h in
     let q = and_parts (bytes_eq x.name y.name) (is_same_kind x.kind y.kind) p.0 in
     ap (λ c. c ∷ xs) (same_column x y (same_bytes x.name y.name q.0) (same_kind x.kind y.kind q.1))
-        ∙ ap (λ cs. y ∷ cs) (same_columns xs ys p.1)
+    ∙ ap (λ cs. y ∷ cs) (same_columns xs ys p.1)
 
 either_schema : (b : Bool) (u v : TableValue) (rest : Option TableValue) → u.schema ≡ v.schema
     → option_map (λ (x : TableValue). x.schema) (cond b (Some u) rest) ≡ option_map (λ (x : TableValue). x.schema)
@@ -145,7 +145,7 @@ either_schema false u v rest e = refl
 later_schema : (b : Bool) (u : TableValue) (rest rest' : Option TableValue) (s : List Column)
     → option_map (λ (x : TableValue). x.schema) (cond b (Some u) rest) ≡ Some s →
     (option_map (λ (x : TableValue). x.schema) rest ≡ Some s → option_map (λ (x : TableValue). x.schema) rest' ≡ Some s)
-        → option_map (λ (x : TableValue). x.schema) (cond b (Some u) rest') ≡ Some s
+    → option_map (λ (x : TableValue). x.schema) (cond b (Some u) rest') ≡ Some s
 later_schema true u rest rest' s h later = h
 later_schema false u rest rest' s h later = later h
 
@@ -154,10 +154,10 @@ kept_by : (test : Bool) (t : TableState) (ts : List TableState) (name other : Li
     has_other_columns (cond test (Some t.now.content) (find_table ts name)) version.content ≡ false →
     option_map (λ (x : TableValue). x.schema) (find_table (t ∷ ts) other) ≡ Some s →
     (has_other_columns (find_table ts name) version.content ≡ false
-        → option_map (λ (x : TableValue). x.schema) (find_table ts other) ≡ Some s
-        → option_map (λ (x : TableValue). x.schema) (find_table (put_version ts name version) other) ≡ Some s) →
+    → option_map (λ (x : TableValue). x.schema) (find_table ts other) ≡ Some s
+    → option_map (λ (x : TableValue). x.schema) (find_table (put_version ts name version) other) ≡ Some s) →
     option_map (λ (x : TableValue). x.schema)
-        (find_table (cond test (renewed t version ∷ ts) (t ∷ put_version ts name version)) other) ≡ Some s
+    (find_table (cond test (renewed t version ∷ ts) (t ∷ put_version ts name version)) other) ≡ Some s
 kept_by true t ts name other version s o h later =
     let columns : t.now.content.schema ≡ version.content.schema = same_columns _ _ (not_false _ o) in
     sym (either_schema (bytes_eq other t.name) t.now.content version.content (find_table ts other) columns) ∙ h
@@ -168,7 +168,7 @@ kept_by false t ts name other version s o h later =
 schema_put : (ts : List TableState) (name other : List ℕ) (version : Version) (s : List Column)
     → has_other_columns (find_table ts name) version.content ≡ false →
     option_map (λ (x : TableValue). x.schema) (find_table ts other) ≡ Some s
-        → option_map (λ (x : TableValue). x.schema) (find_table (put_version ts name version) other) ≡ Some s
+    → option_map (λ (x : TableValue). x.schema) (find_table (put_version ts name version) other) ≡ Some s
 schema_put [] name other version s o h = absurd cc
 schema_put (t ∷ ts) name other version s o h =
     kept_by (bytes_eq name t.name) t ts name other version s o h (schema_put ts name other version s)
@@ -177,9 +177,9 @@ schema_put (t ∷ ts) name other version s o h =
 pub statements_put : (ts : List TableState) (name : List ℕ) (version : Version) (ss : List StatementState)
     → has_other_columns (find_table ts name) version.content ≡ false →
     All (λ prepared. All (IsLoaded ts) prepared.statement.places) ss
-        → All (λ prepared. All (IsLoaded (put_version ts name version)) prepared.statement.places) ss
+    → All (λ prepared. All (IsLoaded (put_version ts name version)) prepared.statement.places) ss
 statements_put ts name version ss o a =
     All-weaker (λ (s : StatementState). All (IsLoaded ts) s.statement.places)
-        (λ (s : StatementState). All (IsLoaded (put_version ts name version)) s.statement.places)
+    (λ (s : StatementState). All (IsLoaded (put_version ts name version)) s.statement.places)
     (λ s h. All-weaker (IsLoaded ts) (IsLoaded (put_version ts name version))
-        (λ place k. schema_put ts name place.table version place.schema o k) s.statement.places h) ss a
+    (λ place k. schema_put ts name place.table version place.schema o k) s.statement.places h) ss a

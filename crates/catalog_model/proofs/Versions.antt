@@ -42,7 +42,7 @@ other_by : (test : Bool) (t : TableState) (ts : List TableState) (name : List �
     → (version.number == number) ≡ false
     → ((t.now.number == number) || has_number number (present_versions ts)) ≡ false →
     (has_number number (present_versions ts) ≡ false
-        → has_number number (present_versions (put_version ts name version)) ≡ false) →
+    → has_number number (present_versions (put_version ts name version)) ≡ false) →
     has_number number (present_versions (cond test (renewed t version ∷ ts) (t ∷ put_version ts name version))) ≡ false
 other_by true t ts name version number o h later = let p =
     or_parts (t.now.number == number) (has_number number (present_versions ts)) h in
@@ -62,7 +62,7 @@ numbers_by : (test : Bool) (t : TableState) (ts : List TableState) (name : List 
     → All (IsBefore version.number) (t ∷ ts)
     → (not (has_number t.now.number (present_versions ts)) && numbers_differ (present_versions ts)) ≡ true →
     (All (IsBefore version.number) ts → numbers_differ (present_versions ts) ≡ true
-        → numbers_differ (present_versions (put_version ts name version)) ≡ true) →
+    → numbers_differ (present_versions (put_version ts name version)) ≡ true) →
     numbers_differ (present_versions (cond test (renewed t version ∷ ts) (t ∷ put_version ts name version))) ≡ true
 numbers_by true t ts name version a h later =
     let p = and_parts (not (has_number t.now.number (present_versions ts))) (numbers_differ (present_versions ts)) h in
@@ -72,7 +72,7 @@ numbers_by false t ts name version a h later =
     let before : t.now.number < version.number = All-head (IsBefore version.number) t ts a in
     let differs : (version.number == t.now.number) ≡ false = grind (arith, nat_tests) in
     and_join _ _ (ap not (other_put ts name version t.now.number differs (not_true _ p.0)))
-        (later (All-tail (IsBefore version.number) t ts a) p.1)
+    (later (All-tail (IsBefore version.number) t ts a) p.1)
 
 -- the numbers differ still as the next version is put
 pub numbers_put : (ts : List TableState) (name : List ℕ) (version : Version) → All (IsBefore version.number) ts
@@ -85,7 +85,7 @@ numbers_put (t ∷ ts) name version a h =
 before_by : (test : Bool) (t : TableState) (ts : List TableState) (name : List ℕ) (version : Version) (next : ℕ)
     → version.number < next → All (IsBefore next) (t ∷ ts) →
     (All (IsBefore next) ts → All (IsBefore next) (put_version ts name version))
-        → All (IsBefore next) (cond test (renewed t version ∷ ts) (t ∷ put_version ts name version))
+    → All (IsBefore next) (cond test (renewed t version ∷ ts) (t ∷ put_version ts name version))
 before_by true t ts name version next lt a later =
     All-cons (IsBefore next) (renewed t version) ts lt (All-tail (IsBefore next) t ts a)
 before_by false t ts name version next lt a later =

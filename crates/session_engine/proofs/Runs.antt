@@ -64,8 +64,8 @@ pub executed : (number : ℕ) (name : List ℕ) (q : Statement) (rows : List (Li
     (numbers : List ℕ) (e : Execution) (lines : List (List ℕ)) → is_built q ≡ true
     → map (λ row. row ∷ []) numbers ≡ kept_combinations q (rows ∷ []) args → length numbers ≤ 1000000 →
     e ≡ scan_execution number name q (rows ∷ []) args
-        → lines ≡ map (λ row. row_line (shown_row (rows ∷ []) q.items ((row ∷ []) ∷ []) (row ∷ []))) numbers
-        → Executed number name q (rows ∷ []) args (Some (e, lines))
+    → lines ≡ map (λ row. row_line (shown_row (rows ∷ []) q.items ((row ∷ []) ∷ []) (row ∷ []))) numbers
+    → Executed number name q (rows ∷ []) args (Some (e, lines))
 executed number name q rows args numbers e lines b k small h l =
     let n = counted q rows args numbers b k in
     record {
@@ -112,16 +112,16 @@ pub not_built : (old : State) (name : List ℕ) (args : List Value) (instance : 
 not_built old name args instance answer e b says =
     of_instance old old name args instance answer e
     (refused_by old (execution_refusal instance.statement (present_tables old instance.statement) instance.args)
-        (refusal 21 []) answer _ (unbuilt instance.statement _ b) says)
+    (refusal 21 []) answer _ (unbuilt instance.statement _ b) says)
 
 pub too_large : (old : State) (name : List ℕ) (args : List Value) (instance : Instance) (answer : Reply)
     → instance_of old.catalog name args ≡ Ok instance → is_built instance.statement ≡ true →
     nat_le (length (meaning_of instance.statement (present_tables old instance.statement) instance.args)) 1000000
-        ≡ false → answer ≡ reply.Refused (refusal 12 []) → RunStep old name args answer old
+    ≡ false → answer ≡ reply.Refused (refusal 12 []) → RunStep old name args answer old
 too_large old name args instance answer e b n says =
     of_instance old old name args instance answer e
     (refused_by old (execution_refusal instance.statement (present_tables old instance.statement) instance.args)
-        (refusal 12 []) answer _ (large instance.statement _ b n) says)
+    (refusal 12 []) answer _ (large instance.statement _ b n) says)
 
 executes_by : (o : Option Refusal) (P : Type 0) (Q : Refusal → Type 0) → o ≡ None → P → MatchOption o P Q
 executes_by o P Q e p = rw e p
@@ -129,18 +129,18 @@ executes_by o P Q e p = rw e p
 pub executed_run : (old new : State) (name : List ℕ) (args : List Value) (instance : Instance) (e : Execution)
     (lines : List (List ℕ)) → instance_of old.catalog name args ≡ Ok instance → is_built instance.statement ≡ true →
     Ran (old.executions + 1) name instance.statement (present_tables old instance.statement) instance.args e lines
-        → new ≡ record old { executions = old.executions + 1 } → RunStep old name args (reply.Ran e lines) new
+    → new ≡ record old { executions = old.executions + 1 } → RunStep old name args (reply.Ran e lines) new
 executed_run old new name args instance e lines i b ran n =
     of_instance old new name args instance (reply.Ran e lines) i
     (executes_by (execution_refusal instance.statement (present_tables old instance.statement) instance.args) _ _
-        (small instance.statement _ b ran.few)
+    (small instance.statement _ b ran.few)
     (record { execution = e; shows = ran.shows; says = ap (reply.Ran e) ran.rows; counts = n }))
 
 -- the instance that the store found, and the statement of its number
 pub same_instance : (wanted : Result Instance Refusal) (catalog : Catalog) (found : stored.Instance) (q : Statement)
     (args : List Value) → Instantiates wanted catalog args (Ok found) →
     option_map (λ (s : StatementState). s.statement) (slice_get catalog.statements found.statement) ≡ Some q
-        → wanted ≡ Ok (record { statement = q; args = args })
+    → wanted ≡ Ok (record { statement = q; args = args })
 same_instance wanted catalog found q args h e =
     let some : Some h.0 ≡ Some q = sym h.2.1 ∙ e in
     let same : h.0 ≡ q = cc in
@@ -157,7 +157,7 @@ one_table {A = A} value ts (place ∷ []) (y ∷ ys) x one same there =
     let e : y ≡ x = cc in
     let h : Some (value y) ≡ find_table ts place.table = cc in
     ap (λ (o : Option TableValue). option_map_or (λ t. t.rows) o [] ∷ []) (sym h)
-        ∙ ap (λ (t : A). (value t).rows ∷ []) e
+    ∙ ap (λ (t : A). (value t).rows ∷ []) e
 one_table value ts (place ∷ (other ∷ places)) items x one same there = absurd (omega arith)
 
 pub some_table : {A : Type 0} (value : A → TableValue) (ts : List TableState) (places : List Place) (items : List A)

@@ -68,9 +68,9 @@ all_at P (s ∷ ss) (suc i) q a h = all_at P ss i q (All-tail (λ (x : Statement
 statement_behind : (test : Bool) (e : List ℕ × Statement) (es : List (List ℕ × Statement)) (name : List ℕ)
     (q : Statement) → cond test (Some e.1) (find_statement (statements_in es) name) ≡ None →
     (find_statement (statements_in es) name ≡ None
-        → statements_in (insert_entry bytes_eq es name q) ≡ statements_in es ++ new_statement name q ∷ []) →
+    → statements_in (insert_entry bytes_eq es name q) ≡ statements_in es ++ new_statement name q ∷ []) →
     statements_in (cond test ((e.0, q) ∷ es) (e ∷ insert_entry bytes_eq es name q)) ≡ new_statement e.0 e.1 ∷
-        (statements_in es ++ new_statement name q ∷ [])
+    (statements_in es ++ new_statement name q ∷ [])
 statement_behind true e es name q none step = cc
 statement_behind false e es name q none step = ap (λ (ss : List StatementState). new_statement e.0 e.1 ∷ ss) (step none)
 
@@ -94,7 +94,7 @@ pub tables_more : {A : Type 0} (f : A → Option TableValue) (g : Place → Opti
     map f items ≡ map g (take i places) → map f items' ≡ map g (take (i + 1) places)
 tables_more {A = A} f g items items' x places i place e same there lt so_far =
     let more : take (i + 1) places ≡ take i places ++ place ∷ [] = take_more places i place lt
-        ∙ ap (λ (p : Place). take i places ++ p ∷ []) (sym there) in
+    ∙ ap (λ (p : Place). take i places ++ p ∷ []) (sym there) in
     ap (map f) e ∙ (map-append f items (x ∷ []) ∙ (ap (λ (front : List (Option TableValue)). front ++ f x ∷ []) so_far
     ∙ (ap (λ (y : Option TableValue). map g (take i places) ++ y ∷ []) same
-        ∙ (sym (map-append g (take i places) (place ∷ [])) ∙ sym (ap (map g) more)))))
+    ∙ (sym (map-append g (take i places) (place ∷ [])) ∙ sym (ap (map g) more)))))
