@@ -12,6 +12,7 @@ use crate::place_sets::has_bit;
 use row_values::{OutOfMemory, PLACE_LIMIT, Place, Query};
 use std::alloc::Global;
 use std::marker::Model;
+use std::rc::Rc;
 
 /// Which columns of which places have an index: at most five masks held in place, one for each
 /// place, whose bit
@@ -92,14 +93,22 @@ pub struct Weights {
     pub out: u16,
 }
 
-/// The counts that plans of one statement are costed by; contracts see the record of its lists.
+/// The lists of counts that a `Stats` shares with its copies.
 #[derive(Debug, Drop)]
-pub struct Stats {
+struct Counts {
     rows: Vec<u64>,
     fixed: Vec<u64>,
     matching: Vec<u64>,
     distinct: Vec<u64>,
     fans: Vec<Vec<u64>>,
+}
+
+/// The counts that plans of one statement are costed by; contracts see the record of its lists.
+///
+/// The lists are shared inside, so a copy takes no memory.
+#[derive(Debug, Drop)]
+pub struct Stats {
+    counts: Rc<Counts>,
     indexed: Indexed,
     weights: Weights,
 }
@@ -111,14 +120,28 @@ impl Model for Stats {
     ghost Value = { Statistics };
 
     ghost view = { λ s. record {
-      rows = s.rows.items;
-      fixed = s.fixed.items;
-      matching = s.matching.items;
-      distinct = s.distinct.items;
-      fans = map (λ fans. fans.items) s.fans.items;
+      rows = s.counts.value.rows.items;
+      fixed = s.counts.value.fixed.items;
+      matching = s.counts.value.matching.items;
+      distinct = s.counts.value.distinct.items;
+      fans = map (λ fans. fans.items) s.counts.value.fans.items;
       indexed = s.indexed;
       weights = s.weights;
     } };
+}
+
+impl Clone for Stats {
+    ghost use Rattle.std.specs.Prelude.{◌≡◌};
+
+    ghost is_clone = { λ original copied. copied ≡ original };
+
+    fn clone(&self) -> Result<Stats, OutOfMemory> {
+        Ok(Stats {
+            counts: self.counts.clone()?,
+            indexed: self.indexed,
+            weights: self.weights,
+        })
+    }
 }
 
 /// A list of its own.
@@ -171,12 +194,15 @@ impl Stats {
             ≡ statistics_of q.now.places rows.now fixed.now matching.now edges.now fans.now
             indexed weights) }
     {
-        Ok(Stats {
+        let counts = Counts {
             rows: kept(alloc, rows)?,
             fixed: kept(alloc, fixed)?,
             matching: kept(alloc, matching)?,
             distinct: kept(alloc, edges)?,
             fans: kept_by_place(alloc, q.places(), fans)?,
+        };
+        Ok(Stats {
+            counts: Rc::new(alloc, counts)?,
             indexed,
             weights,
         })
@@ -187,7 +213,7 @@ impl Stats {
         requires { place < length self.now.rows }
         ensures { result ≡ slice_index self.now.rows place }
     {
-        self.rows[usize::from(place)]
+        self.counts.rows[usize::from(place)]
     }
 
     /// The rows that meet all fixed predicates on the place, at least 1.
@@ -195,7 +221,7 @@ impl Stats {
         requires { place < length self.now.fixed }
         ensures { result ≡ slice_index self.now.fixed place }
     {
-        self.fixed[usize::from(place)]
+        self.counts.fixed[usize::from(place)]
     }
 
     /// The rows that meet the fixed predicate alone, at least 1; 1 for a parameterised one.
@@ -203,7 +229,7 @@ impl Stats {
         requires { pred < length self.now.matching }
         ensures { result ≡ slice_index self.now.matching pred }
     {
-        self.matching[usize::from(pred)]
+        self.counts.matching[usize::from(pred)]
     }
 
     /// The larger of the distinct counts of the edge's two columns, at least 1.
@@ -211,7 +237,7 @@ impl Stats {
         requires { edge < length self.now.distinct }
         ensures { result ≡ slice_index self.now.distinct edge }
     {
-        self.distinct[usize::from(edge)]
+        self.counts.distinct[usize::from(edge)]
     }
 
     /// The rows for each distinct value of the column, rounded up.
@@ -220,7 +246,7 @@ impl Stats {
         requires column { column < length (slice_index_or self.now.fans place []) }
         ensures { result ≡ fan_at self.now place column }
     {
-        let fans = &self.fans[usize::from(place)];
+        let fans = &self.counts.fans[usize::from(place)];
         fans[usize::from(column)]
     }
 
