@@ -6,6 +6,7 @@ pub mod RecordsLeft
 pub mod Rows
 pub mod Sound
 pub mod Spelled
+pub mod SpelledTables
 pub mod Surveyed
 pub mod Texts
 pub mod Widths

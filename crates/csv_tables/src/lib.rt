@@ -6,6 +6,7 @@
 mod cells;
 mod faults;
 mod header;
+pub mod laws;
 mod packed;
 mod read;
 mod records;
