@@ -1,13 +1,13 @@
 -- Whole numbers are UTF-8.
 use Rattle.std.proofs.Common.{◌≡◌, ◌<◌, ◌^◌, ℕ, zero, suc, Bool, true, false, ◌&&◌, List, [], ◌∷◌, get_or, refl, arith}
-use Rattle.std.proofs.Common.{lit<, Option, None, Some, if◌then◌else◌, sym, eqb→eq}
+use Rattle.std.proofs.Common.{lit<, None, Some, if◌then◌else◌, eqb→eq}
 use Rattle.std.specs.Prelude.{is_some, nat_eq, nat_lt, nat_le}
 use Rattle.std.specs.Char.{is_ascii_digit}
 use Rattle.std.proofs.lemmas.Bool.{and_parts, false≢true}
 use Rattle.std.proofs.lemmas.Bool.Decides.{nat_tests}
 use Rattle.std.proofs.lemmas.Str.{IsUtf8-from_ascii, is_utf8-from_IsUtf8}
 use Rattle.std.specs.Str.{all_ascii_digits, is_utf8}
-use Rattle.row_values.specs.Numbers.{are_digits, read_on, whole_number_of}
+use Rattle.row_values.specs.Numbers.{are_digits, read_on}
 use Rattle.csv_tables.specs.Numbers.{is_whole_number}
 
 digit_is_ascii : (byte : ℕ) → is_ascii_digit byte ≡ true → byte < 128

@@ -1,20 +1,18 @@
 -- The orders of cells and of rows are total, and what is sorted by them.
 use Rattle.std.proofs.Common.{ℕ, ℤ, ◌≡◌, ◌<◌, ◌+◌, false, List, refl, length, get_or, map, arith, pos}
 use Rattle.std.specs.Prelude.{All, Option, None, Some, slice_get, option_map, IsSortedBy}
-use Rattle.std.specs.Cmp.{IsTotalOrder, IsStrictWeakOrder, nat_cmp_total, int_cmp_total}
-use Rattle.std.specs.Cmp.Lexicographic.{options_total, slice_cmp, lists_total}
+use Rattle.std.specs.Cmp.{IsStrictWeakOrder, nat_cmp_total}
 use Rattle.std.specs.Option.{option_cmp}
 use Rattle.std.specs.declared.cmp.Ordering.{Ordering}
 use Rattle.std.specs.declared.cmp.Ordering.TheVariants.{Less, Equal, Greater}
-use Rattle.std.specs.Ordering.{is_lt, int_cmp, nat_cmp, ordering_then, ordering_reverse}
+use Rattle.std.specs.Ordering.{is_lt, int_cmp, nat_cmp, ordering_then}
 use Rattle.std.proofs.lemmas.Cmp.{then_total, on_total}
 use Rattle.std.proofs.lemmas.List.{get_or-map, length-map}
 use Rattle.std.proofs.lemmas.List.Sorted.{ranks_by}
-use Rattle.row_values.specs.declared.values.Value.{Value}
-use Rattle.row_values.specs.declared.values.Value.TheVariants.{Int, Text}
+use Rattle.row_values.specs.declared.values.Value.TheVariants.{Int}
 use Rattle.row_values.proofs.TotalOrders.{cell_order_total}
 use Rattle.csv_tables.specs.Tables.{AreNumbers, TableValue, cell_at}
-use Rattle.row_values.specs.Orders.{value_order, cell_order}
+use Rattle.row_values.specs.Orders.{cell_order}
 use Rattle.table_index.specs.Indexes.{is_before, number_order, row_order}
 
 -- the order of the rows of a table in a column is total

@@ -1,3 +1,4 @@
 pub mod Bounds
 pub mod Distinct
 pub mod Indexes
+pub mod StatementIndexes

@@ -10,10 +10,12 @@ mod cells;
 mod distinct;
 mod index;
 mod sorting;
+mod statement_indexes;
 
 pub use bounds::Bound;
 pub use distinct::distinct_values;
 pub use index::Index;
+pub use statement_indexes::{entries_of, index_of};
 
 #[cfg(test)]
 mod tests;
