@@ -1,4 +1,5 @@
 mod Apart
+mod BoundIsSound
 mod Exits
 mod Fitting
 mod Found

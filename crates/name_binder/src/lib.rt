@@ -10,6 +10,7 @@ mod binder;
 mod catalog;
 mod checks;
 mod faults;
+pub mod laws;
 mod limits;
 mod parts;
 mod places;
