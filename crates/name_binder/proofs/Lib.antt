@@ -1,5 +1,5 @@
 mod Apart
-mod BoundIsSound
+pub mod BoundIsSound
 mod Exits
 mod Fitting
 mod Found

@@ -7,5 +7,6 @@ ghost use Rattle.name_binder.specs.Catalog.{Known};
 
 /// A bound statement is sound: its parts go together and are within the limits.
 pub fn bound_is_sound()
-    ensures { (tables : List Known) (s : Parts) (q : Statement) → IsSound s → binding_of tables s ≡ Ok q → IsSoundQuery q }
+    ensures { (tables : List Known) (s : Parts) (q : Statement) → IsSound s → binding_of tables s ≡ Ok q
+        → IsSoundQuery q }
 {}

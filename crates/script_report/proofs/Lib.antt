@@ -2,4 +2,5 @@ mod Arguments
 mod Blanks
 mod CanonicalCommands
 mod CommandWords
+pub mod ReadStatements
 mod SaidLines
