@@ -13,4 +13,4 @@ mod value_tests;
 
 pub use cells::cell_in;
 pub use predicate_tests::{Ready, passes, ready_pred, ready_preds, row_meets};
-pub use value_tests::{NumberTest, meets_test, number_test};
+pub use value_tests::{NumberTest, meets_test, number_test, value_of};

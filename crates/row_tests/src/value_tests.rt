@@ -26,7 +26,7 @@ pub enum NumberTest {
 }
 
 /// What an operand stands for; none where its argument isn't there.
-fn value_of<'a>(args: &'a [Value], operand: &'a Operand) -> Option<&'a Value>
+pub fn value_of<'a>(args: &'a [Value], operand: &'a Operand) -> Option<&'a Value>
     ensures { option_map (λ value. value.now) result ≡ operand_value args.now operand.now }
 {
     match operand {
