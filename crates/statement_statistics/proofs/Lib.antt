@@ -1,0 +1,5 @@
+pub mod Counts
+pub mod Numbered
+pub mod SameRows
+pub mod SoundStats
+pub mod Widths
