@@ -1,4 +1,4 @@
-mod Bindings
+pub mod Bindings
 pub mod Cuts
 pub mod Loads
 pub mod Names

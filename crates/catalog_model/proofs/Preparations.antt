@@ -2,9 +2,10 @@
 use Rattle.std.proofs.Common.{ℕ, ◌≡◌, ◌≤◌, ◌<◌, List, [], ◌∷◌, ◌++◌, length, nat_lt, is_some, Bool, true, false, Option, Some, None, Result, Ok, Err, All, refl, arith, cond, length-append}
 use Rattle.std.proofs.lemmas.Bool.Decides.{nat_tests}
 use Rattle.std.proofs.lemmas.List.Elements.{All-push}
-use Rattle.row_values.specs.Statements.{Statement}
+use Rattle.row_values.specs.Statements.{IsSoundQuery, Statement}
 use Rattle.row_values.specs.declared.refusals.Refusal.{Refusal}
-use Rattle.sql_parser.specs.Statement.{Parts}
+use Rattle.sql_parser.specs.Statement.{IsSound, Parts}
+use Rattle.name_binder.proofs.BoundIsSound.{bound_is_sound}
 use Rattle.name_binder.specs.Binding.{binding_of}
 use Rattle.name_binder.specs.declared.faults.BindFault.{BindFault}
 use Rattle.catalog_model.specs.Catalogs.{Catalog, StatementState, Version, find_statement, schemas_of, with_statement}
@@ -20,22 +21,25 @@ none_of (Some x) h = absurd cc
 longer : (xs : List StatementState) (x : StatementState) → length xs < 256 → length (xs ++ x ∷ []) ≤ 256
 longer xs x h = let e = length-append xs (x ∷ []) in omega arith
 
--- What a preparation that isn't refused says.
-pub record Kept (catalog : Catalog) (name : List ℕ) (select : Parts) (q : Statement) : Type 0 where
+-- What is known of a statement that may be kept under a name.
+pub record MayKeep (catalog : Catalog) (name : List ℕ) (q : Statement) : Type 0 where
   pub free : find_statement catalog.statements name ≡ None
-  pub binding : binding_of (schemas_of catalog.tables) select ≡ Ok q
+  pub query : IsSoundQuery q
+  pub loaded : All (IsLoaded catalog.tables) q.places
   pub room : length catalog.statements < 256
 
--- a bound statement of a free name, where there is room for it
-pub kept : (held : List Version) (catalog : Catalog) (name : List ℕ) (select : Parts) (q : Statement)
-    → IsCatalog held catalog → Kept catalog name select q → IsCatalog held (with_statement catalog name q)
-kept held catalog name select q sound k = record {
+pub kept : (held : List Version) (catalog : Catalog) (name : List ℕ) (q : Statement) → MayKeep catalog name q
+    → IsCatalog held catalog → IsCatalog held (with_statement catalog name q)
+kept held catalog name q k sound = record {
   table_names = sound.table_names;
   statement_names = differ_behind catalog.statements name q k.free sound.statement_names;
   version_numbers = sound.version_numbers;
   numbered = sound.numbered;
+  are_tables = sound.are_tables;
+  are_sound = All-push (λ (prepared : StatementState). IsSoundQuery prepared.statement) catalog.statements
+      (new_statement name q) sound.are_sound k.query;
   loaded = All-push (λ (prepared : StatementState). All (IsLoaded catalog.tables) prepared.statement.places)
-      catalog.statements (new_statement name q) sound.loaded (bound_loaded catalog.tables select q k.binding);
+      catalog.statements (new_statement name q) sound.loaded k.loaded;
   few_tables = sound.few_tables;
   few_statements = longer catalog.statements (new_statement name q) k.room;
   few_cells = sound.few_cells;
@@ -60,9 +64,15 @@ ok_bound ss (Err fault) q h = absurd cc
 ok_bound ss (Ok p) q h = let r = ok_room (nat_lt (length ss) 256) _ p q h in (cc, below (length ss) 256 r.0)
 
 pub prepared : (held : List Version) (catalog : Catalog) (name : List ℕ) (select : Parts) (q : Statement)
-    → IsCatalog held catalog → preparing_of catalog name select ≡ Ok q → IsCatalog held (with_statement catalog name q)
+    → IsSound select → IsCatalog held catalog → preparing_of catalog name select ≡ Ok q
+    → IsCatalog held (with_statement catalog name q)
 unfolding preparing_of
-prepared held catalog name select q sound h =
+prepared held catalog name select q parts sound h =
     let f = ok_free (is_some (find_statement catalog.statements name)) _ q _ h in
     let b = ok_bound catalog.statements (binding_of (schemas_of catalog.tables) select) q f.1 in
-    kept held catalog name select q sound (record { free = none_of _ f.0; binding = b.0; room = b.1 })
+    kept held catalog name q (record {
+      free = none_of _ f.0;
+      query = bound_is_sound (schemas_of catalog.tables) select q parts b.0;
+      loaded = bound_loaded catalog.tables select q b.0;
+      room = b.1;
+    }) sound

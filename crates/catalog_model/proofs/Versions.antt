@@ -82,26 +82,28 @@ numbers_put [] name version a h = refl
 numbers_put (t ∷ ts) name version a h =
     numbers_by (bytes_eq name t.name) t ts name version a h (numbers_put ts name version)
 
-before_by : (test : Bool) (t : TableState) (ts : List TableState) (name : List ℕ) (version : Version) (next : ℕ)
-    → version.number < next → All (IsBefore next) (t ∷ ts) →
-    (All (IsBefore next) ts → All (IsBefore next) (put_version ts name version))
-    → All (IsBefore next) (cond test (renewed t version ∷ ts) (t ∷ put_version ts name version))
-before_by true t ts name version next lt a later =
-    All-cons (IsBefore next) (renewed t version) ts lt (All-tail (IsBefore next) t ts a)
-before_by false t ts name version next lt a later =
-    All-cons (IsBefore next) t (put_version ts name version) (All-head (IsBefore next) t ts a)
-    (later (All-tail (IsBefore next) t ts a))
+-- the present version of a table has this
+abbrev Now : (Version → Type 0) → TableState → Type 0
+Now P table = P table.now
 
-before_put : (ts : List TableState) (name : List ℕ) (version : Version) (next : ℕ) → version.number < next
-    → All (IsBefore next) ts → All (IsBefore next) (put_version ts name version)
-before_put [] name version next lt a =
-    All-cons (IsBefore next) (record { name = name; now = version; indexed = [] }) [] lt (All-nil (IsBefore next))
-before_put (t ∷ ts) name version next lt a =
-    before_by (bytes_eq name t.name) t ts name version next lt a (before_put ts name version next lt)
+all_by : (P : Version → Type 0) (test : Bool) (t : TableState) (ts : List TableState) (name : List ℕ)
+    (version : Version) → P version → All (Now P) (t ∷ ts) → (All (Now P) ts → All (Now P) (put_version ts name version))
+    → All (Now P) (cond test (renewed t version ∷ ts) (t ∷ put_version ts name version))
+all_by P true t ts name version p a later = All-cons (Now P) (renewed t version) ts p (All-tail (Now P) t ts a)
+all_by P false t ts name version p a later =
+    All-cons (Now P) t (put_version ts name version) (All-head (Now P) t ts a) (later (All-tail (Now P) t ts a))
+
+-- what each version has, and the one that is put, each has then
+pub all_put : (P : Version → Type 0) (ts : List TableState) (name : List ℕ) (version : Version) → P version
+    → All (Now P) ts → All (Now P) (put_version ts name version)
+all_put P [] name version p a =
+    All-cons (Now P) (record { name = name; now = version; indexed = [] }) [] p (All-nil (Now P))
+all_put P (t ∷ ts) name version p a =
+    all_by P (bytes_eq name t.name) t ts name version p a (all_put P ts name version p)
 
 -- all numbers are below the one after the next
 pub numbered_put : (ts : List TableState) (name : List ℕ) (version : Version) → All (IsBefore version.number) ts
     → All (IsBefore (version.number + 1)) (put_version ts name version)
 numbered_put ts name version a =
-    before_put ts name version (version.number + 1) (omega arith)
+    all_put (λ v. v.number < version.number + 1) ts name version (omega arith)
     (All-weaker (IsBefore version.number) (IsBefore (version.number + 1)) (λ t h. omega arith) ts a)

@@ -3,9 +3,9 @@ use Rattle.std.specs.Prelude.{ℕ, ◌&&◌, nat_lt, List, [], ◌∷◌, ◌++�
 use Rattle.std.specs.Str.{bytes_eq}
 use Rattle.outside_model.specs.declared.TheConstants.{FILE_LIMIT}
 use Rattle.row_values.specs.Names.{canonical_name}
+use Rattle.row_values.specs.Refusals as refused
 use Rattle.row_values.specs.declared.columns.Column.{Column}
 use Rattle.row_values.specs.declared.refusals.Refusal.{Refusal}
-use Rattle.row_values.specs.declared.refusals.TheConstants.{FILE_TOO_LONG, NOT_A_TABLE, SCHEMA_DIFFERS, STORE_LIMIT}
 use Rattle.row_values.specs.declared.values.Kind.{Kind}
 use Rattle.row_values.specs.declared.values.Kind.TheVariants.{Int, Text}
 use Rattle.csv_tables.specs.Tables.{TableValue}
@@ -13,7 +13,7 @@ use Rattle.csv_tables.specs.Spelled.{table_of}
 use Rattle.csv_tables.specs.declared.faults.TableFault.{TableFault}
 use Rattle.catalog_model.specs.declared.TheConstants.{TABLE_LIMIT, HELD_CELL_LIMIT, HELD_BYTE_LIMIT}
 use Rattle.catalog_model.specs.Catalogs.{Catalog, TableState, Version, find_table, put_version, next_version}
-use Rattle.catalog_model.specs.Faults.{refusal, fault_text}
+use Rattle.catalog_model.specs.Faults.{fault_text}
 use Rattle.catalog_model.specs.Held.{cells_held, bytes_held, present_versions}
 
 abbrev pub is_same_kind : Kind → Kind → Bool
@@ -50,23 +50,22 @@ limit_passed_by held tables = passed_limit (length tables) (held ++ present_vers
 -- the version, unless a limit is passed with it
 abbrev pub within_limits : Version → Option (List ℕ) → Result Version Refusal
 within_limits new None = Ok new
-within_limits new (Some limit) = Err (refusal STORE_LIMIT limit)
+within_limits new (Some limit) = Err (refused.store_limit limit)
 
 -- the new version of the table of this name, or why it isn't kept
 abbrev pub keeping_of : List Version → List TableState → List ℕ → Version → Result Version Refusal
 keeping_of held tables name new =
-    if has_other_columns (find_table tables name) new.content then Err
-    (refusal SCHEMA_DIFFERS (canonical_name name)) else
+    if has_other_columns (find_table tables name) new.content then Err (refused.schema_differs (canonical_name name)) else
     within_limits new (limit_passed_by held (put_version tables name new))
 
 -- the same of what a file of so many bytes spells
 abbrev pub spelled_version : List Version → Catalog → List ℕ → ℕ → Result TableValue TableFault → Result Version Refusal
-spelled_version held catalog name bytes (Err fault) = Err (refusal NOT_A_TABLE (fault_text fault))
+spelled_version held catalog name bytes (Err fault) = Err (refused.not_a_table (fault_text fault))
 spelled_version held catalog name bytes (Ok content) =
     keeping_of held catalog.tables name (next_version catalog content bytes)
 
 -- the version that a load keeps under this name, beside the versions that cursors hold, or the first refusal
 unfoldable pub loading_of : List Version → Catalog → List ℕ → List ℕ → Result Version Refusal
 loading_of held catalog name bytes =
-    if nat_lt FILE_LIMIT (length bytes) then Err (refusal FILE_TOO_LONG []) else
+    if nat_lt FILE_LIMIT (length bytes) then Err refused.file_too_long else
     spelled_version held catalog name (length bytes) (table_of bytes)

@@ -1,7 +1,9 @@
 -- What every catalog of a session has.
 use Rattle.std.specs.Prelude.{◌≡◌, ◌≤◌, ◌<◌, List, ◌++◌, length, All, IsTrue, Some}
 use Rattle.std.specs.Option.{option_map}
+use Rattle.row_values.specs.Statements.{IsSoundQuery}
 use Rattle.row_values.specs.declared.statement.Place.{Place}
+use Rattle.csv_tables.specs.Tables.{IsTable}
 use Rattle.name_binder.specs.Catalog.{names_differ}
 use Rattle.catalog_model.specs.declared.TheConstants.{TABLE_LIMIT, STATEMENT_LIMIT, HELD_CELL_LIMIT, HELD_BYTE_LIMIT}
 use Rattle.catalog_model.specs.Catalogs.{Catalog, TableState, Version, find_table, schemas_of, statements_differ}
@@ -18,7 +20,10 @@ pub record IsCatalog (held : List Version) (catalog : Catalog) : Type 0 where
   pub statement_names : IsTrue (statements_differ catalog.statements)
   pub version_numbers : IsTrue (numbers_differ (present_versions catalog.tables))
   pub numbered : All (λ table. table.now.number < catalog.versions) catalog.tables
-  -- each statement's tables are loaded, with the columns that it knows
+  -- what is loaded are tables: few rows and cells, and in each row a value per column, of its kind
+  pub are_tables : All (λ table. IsTable table.now.content) catalog.tables
+  -- each statement is sound, and its tables are loaded, with the columns that it knows
+  pub are_sound : All (λ prepared. IsSoundQuery prepared.statement) catalog.statements
   pub loaded : All (λ prepared. All (IsLoaded catalog.tables) prepared.statement.places) catalog.statements
   -- all is within the limits
   pub few_tables : length catalog.tables ≤ TABLE_LIMIT

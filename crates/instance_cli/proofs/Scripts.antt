@@ -104,7 +104,7 @@ InSession moment = IsSession moment.state
 serving_keeps : (files : Option Files) (before : Moment) (line : Line) (reply : Reply) (after : Moment)
     → InSession before → ServesLine files before line reply after → InSession after
 serving_keeps files before line reply after session serves =
-    kept before.state (reading_of line.text) serves.file reply after.state session serves.step
+    kept before.state line.text serves.file reply after.state session serves.step
 
 -- from each moment of a session the lines that get a reply can be served
 serve_on : (files : Option Files) (before : Moment) (ls : List Line) → InSession before → AreSpoken ls

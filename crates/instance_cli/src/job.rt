@@ -42,8 +42,20 @@ fn run_lines<F: Shelf, K: Sink>(
 ) -> Status
     requires { length lines.now < 2 ^ 50 }
     ensures { RunsLines (map (λ line. line.now) lines.now)
-        (record { files = F.files shelf.old; taken = K.taken sink.old; faults = F.faults shelf.old; misses = F.misses shelf.old; sink_faults = K.faults sink.old })
-        (record { files = F.files shelf.new; taken = K.taken sink.new; faults = F.faults shelf.new; misses = F.misses shelf.new; sink_faults = K.faults sink.new })
+        (record {
+          files = F.files shelf.old;
+          taken = K.taken sink.old;
+          faults = F.faults shelf.old;
+          misses = F.misses shelf.old;
+          sink_faults = K.faults sink.old;
+        })
+        (record {
+          files = F.files shelf.new;
+          taken = K.taken sink.new;
+          faults = F.faults shelf.new;
+          misses = F.misses shelf.new;
+          sink_faults = K.faults sink.new;
+        })
         result }
 {
     match serve_lines(alloc, lines, shelf, sink) {
@@ -56,8 +68,20 @@ fn run_lines<F: Shelf, K: Sink>(
 /// Runs a script of these bytes.
 fn run_bytes<F: Shelf, K: Sink>(alloc: Global, bytes: &[u8], shelf: &mut F, sink: &mut K) -> Status
     ensures { RunsBytes bytes.now
-        (record { files = F.files shelf.old; taken = K.taken sink.old; faults = F.faults shelf.old; misses = F.misses shelf.old; sink_faults = K.faults sink.old })
-        (record { files = F.files shelf.new; taken = K.taken sink.new; faults = F.faults shelf.new; misses = F.misses shelf.new; sink_faults = K.faults sink.new })
+        (record {
+          files = F.files shelf.old;
+          taken = K.taken sink.old;
+          faults = F.faults shelf.old;
+          misses = F.misses shelf.old;
+          sink_faults = K.faults sink.old;
+        })
+        (record {
+          files = F.files shelf.new;
+          taken = K.taken sink.new;
+          faults = F.faults shelf.new;
+          misses = F.misses shelf.new;
+          sink_faults = K.faults sink.new;
+        })
         result }
 {
     if bytes.len() > SCRIPT_LIMIT {
@@ -75,8 +99,20 @@ fn run_bytes<F: Shelf, K: Sink>(alloc: Global, bytes: &[u8], shelf: &mut F, sink
 /// Runs the script of this name.
 fn run_script<F: Shelf, K: Sink>(alloc: Global, name: &str, shelf: &mut F, sink: &mut K) -> Status
     ensures { Headline name.now
-        (record { files = F.files shelf.old; taken = K.taken sink.old; faults = F.faults shelf.old; misses = F.misses shelf.old; sink_faults = K.faults sink.old })
-        (record { files = F.files shelf.new; taken = K.taken sink.new; faults = F.faults shelf.new; misses = F.misses shelf.new; sink_faults = K.faults sink.new })
+        (record {
+          files = F.files shelf.old;
+          taken = K.taken sink.old;
+          faults = F.faults shelf.old;
+          misses = F.misses shelf.old;
+          sink_faults = K.faults sink.old;
+        })
+        (record {
+          files = F.files shelf.new;
+          taken = K.taken sink.new;
+          faults = F.faults shelf.new;
+          misses = F.misses shelf.new;
+          sink_faults = K.faults sink.new;
+        })
         result }
 {
     let mut bytes = Vec::new(alloc);
@@ -97,8 +133,20 @@ pub fn scr<F: Shelf, K: Sink>(
     sink: &mut K,
 ) -> Status
     ensures { TopPromise (meaning.mode_of (map (λ word. string_bytes word) words.now))
-        (record { files = F.files shelf.old; taken = K.taken sink.old; faults = F.faults shelf.old; misses = F.misses shelf.old; sink_faults = K.faults sink.old })
-        (record { files = F.files shelf.new; taken = K.taken sink.new; faults = F.faults shelf.new; misses = F.misses shelf.new; sink_faults = K.faults sink.new })
+        (record {
+          files = F.files shelf.old;
+          taken = K.taken sink.old;
+          faults = F.faults shelf.old;
+          misses = F.misses shelf.old;
+          sink_faults = K.faults sink.old;
+        })
+        (record {
+          files = F.files shelf.new;
+          taken = K.taken sink.new;
+          faults = F.faults shelf.new;
+          misses = F.misses shelf.new;
+          sink_faults = K.faults sink.new;
+        })
         result }
 {
     match mode_of(words) {

@@ -2,7 +2,8 @@
 //!
 //! One line is read, its file fetched, the engine asked, and the reply put by one call. The first failure ends the
 //! job. What was written is at each moment the report of a run over the lines so far.
-ghost use Rattle.std.specs.Prelude.{◌≡◌, ◌≢◌, ◌≤◌, ◌<◌, ◌^◌, ◌+◌, ◌⊎◌, ◌||◌, ◌∷◌, [], ◌++◌, IfOk, IfErr, IsSome, OnOk, map, length, ℕ, take, true, false, Some, None};
+ghost use Rattle.std.specs.Prelude.{◌≡◌, ◌≢◌, ◌≤◌, ◌<◌, ◌^◌, ◌+◌, ◌⊎◌, ◌||◌, ◌∷◌, [], ◌++◌, IfOk, IfErr, IsSome, OnOk};
+ghost use Rattle.std.specs.Prelude.{map, length, ℕ, take, true, false, Some, None};
 ghost use Rattle.std.specs.Option.{option_map};
 ghost use Rattle.outside_model.specs.Causes.{Rose};
 ghost use Rattle.outside_model.specs.Files.{Told, up_to};
@@ -35,10 +36,12 @@ enum Found {
 /// Fetches the file that a command asks for.
 fn fetch_for<F: Shelf>(alloc: Global, command: &Command, shelf: &mut F, into: &mut Vec<u8>) -> Found
     ensures files { F.files shelf.new ≡ F.files shelf.old }
-    ensures file { result ≡ Found.File →
-        Told (F.files shelf.old) (λ files. option_map (up_to FILE_LIMIT) (file_of files (Says command.now)) ≡ Some into.new.items) }
-    ensures nothing { result ≡ Found.Nothing → Told (F.files shelf.old) (λ files. file_of files (Says command.now) ≡ None) }
-    ensures missed { result ≡ Found.Nothing → IsMissed None (asks_for (Says command.now)) (F.misses shelf.old) (F.misses shelf.new) }
+    ensures file { result ≡ Found.File → Told (F.files shelf.old)
+        (λ files. option_map (up_to FILE_LIMIT) (file_of files (Says command.now)) ≡ Some into.new.items) }
+    ensures nothing { result ≡ Found.Nothing → Told (F.files shelf.old)
+        (λ files. file_of files (Says command.now) ≡ None) }
+    ensures missed { result ≡ Found.Nothing → IsMissed None (asks_for (Says command.now))
+        (F.misses shelf.old) (F.misses shelf.new) }
     ensures failed { result ≡ Found.Failed → IsSome (asks_for (Says command.now)) }
     ensures faults { F.faults shelf.old ≤ F.faults shelf.new }
     ensures misses { F.misses shelf.old ≤ F.misses shelf.new }
@@ -70,7 +73,8 @@ fn command_reply<F: Shelf>(
     ensures ok { IfOk result (λ reply. Serves (F.files shelf.old)
         (record { state = engine.old.state; misses = F.misses shelf.old }) (Says command.now) reply
         (record { state = engine.new.state; misses = F.misses shelf.new })) }
-    ensures err { IfErr result (λ status. ((status ≡ Status.ReadFault) × IsSome (asks_for (Says command.now))) ⊎ (status ≡ Status.Memory)) }
+    ensures err { IfErr result (λ status. ((status ≡ Status.ReadFault) × IsSome (asks_for (Says command.now)))
+        ⊎ (status ≡ Status.Memory)) }
     ensures faults { F.faults shelf.old ≤ F.faults shelf.new }
     ensures misses { F.misses shelf.old ≤ F.misses shelf.new }
     ensures cause { result ≡ Err Status.ReadFault → Rose (F.faults shelf.old) (F.faults shelf.new) }
@@ -101,7 +105,8 @@ fn reply_for<F: Shelf>(
     ensures ok { IfOk result (λ reply. Answers (F.files shelf.old)
         (record { state = engine.old.state; misses = F.misses shelf.old }) (reading_of text.now) reply
         (record { state = engine.new.state; misses = F.misses shelf.new })) }
-    ensures err { IfErr result (λ status. ((status ≡ Status.ReadFault) × IsSome (asks_for (reading_of text.now))) ⊎ (status ≡ Status.Memory)) }
+    ensures err { IfErr result (λ status. ((status ≡ Status.ReadFault) × IsSome (asks_for (reading_of text.now)))
+        ⊎ (status ≡ Status.Memory)) }
     ensures faults { F.faults shelf.old ≤ F.faults shelf.new }
     ensures misses { F.misses shelf.old ≤ F.misses shelf.new }
     ensures cause { result ≡ Err Status.ReadFault → Rose (F.faults shelf.old) (F.faults shelf.new) }
@@ -124,9 +129,10 @@ fn write_reply<K: Sink>(
     reply: &Reply,
     sink: &mut K,
 ) -> Result<(), Status>
-    ensures ok { OnOk result (Told (K.taken sink.old) (λ bytes. K.taken sink.new ≡ Some (bytes ++ reply_text number reply.now))) }
-    ensures write { result ≡ Err Status.WriteFault →
-        Told (K.taken sink.old) (λ bytes. (count : ℕ) × (K.taken sink.new ≡ Some (bytes ++ take count (reply_text number reply.now)))) }
+    ensures ok { OnOk result (Told (K.taken sink.old)
+        (λ bytes. K.taken sink.new ≡ Some (bytes ++ reply_text number reply.now))) }
+    ensures write { result ≡ Err Status.WriteFault → Told (K.taken sink.old)
+        (λ bytes. (count : ℕ) × (K.taken sink.new ≡ Some (bytes ++ take count (reply_text number reply.now)))) }
     ensures memory { result ≡ Err Status.Memory → Told (K.taken sink.old) (λ bytes. K.taken sink.new ≡ Some bytes) }
     ensures err { IfErr result (λ status. (status ≡ Status.WriteFault) ⊎ (status ≡ Status.Memory)) }
     ensures faults { K.faults sink.old ≤ K.faults sink.new }

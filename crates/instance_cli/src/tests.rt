@@ -33,16 +33,26 @@ fn ends_with(
 #[test]
 fn worked_examples(rt: HostRuntime) -> Result<(), Fail> {
     let first = "load t t.csv\nprepare q SELECT v FROM t WHERE v < ?\nrun q 10\n";
-    let report =
-        "1 loaded t rows 3 columns 1\n2 prepared q tables 1 predicates 1 parameters 1\n3 ran q execution 1\nplan rows(seq(t))\ncost 3298534883328\nat 2\nrow 1\nrow 5\nend 2\n";
+    let report = "1 loaded t rows 3 columns 1\n\
+         2 prepared q tables 1 predicates 1 parameters 1\n\
+         3 ran q execution 1\n\
+         plan rows(seq(t))\n\
+         cost 3298534883328\n\
+         at 2\n\
+         row 1\n\
+         row 5\n\
+         end 2\n";
     assert!(rt;
         ends_with(rt.alloc(), first.as_bytes(), report, Status::Done)?,
         "byte order mark and CRLF"
     );
     let second =
         "load t t.csv\nfrob\nprepare q SELECT v FROM u WHERE v < ?\nload u none.csv\nindex t v\n";
-    let refused =
-        "1 loaded t rows 3 columns 1\n2 refused 1 syntax\n3 refused 2 unknown table u\n4 refused 13 missing file\n5 refused 21 not built yet\n";
+    let refused = "1 loaded t rows 3 columns 1\n\
+         2 refused 1 syntax\n\
+         3 refused 2 unknown table u\n\
+         4 refused 13 missing file\n\
+         5 refused 21 not built yet\n";
     assert!(rt;
         ends_with(rt.alloc(), second.as_bytes(), refused, Status::DoneRefused)?,
         "refusals"
@@ -117,7 +127,12 @@ fn ends_of_ranges(rt: HostRuntime) -> Result<(), Fail> {
             "load t n.csv\nprepare q SELECT v FROM t WHERE {test}\n{run}\n"
         )?;
         let report = format!(in rt.alloc();
-            "1 loaded t rows 5 columns 1\n2 prepared q tables 1 predicates 1 {parameters}\n3 ran q execution 1\nplan rows(seq(t))\ncost 5497558138880\n{rows}"
+            "1 loaded t rows 5 columns 1\n\
+             2 prepared q tables 1 predicates 1 {parameters}\n\
+             3 ran q execution 1\n\
+             plan rows(seq(t))\n\
+             cost 5497558138880\n\
+             {rows}"
         )?;
         assert!(rt;
             reports(
@@ -149,50 +164,181 @@ fn tables_and_statements(rt: HostRuntime) -> Result<(), Fail> {
     let cases = [
         (
             "refusals",
-            "load t t.csv\nload t bad.csv\nrun q 1\nprepare q SELECT w FROM t\nprepare q SELECT v FROM\nprepare q SELECT v FROM t WHERE v < ?\nrun q\nrun q 'x'\nload t gone.csv\nload t two.csv\n",
-            "1 loaded t rows 3 columns 1\n2 refused 15 not a table not csv 2\n3 refused 5 unknown statement q\n4 refused 3 unknown column w\n5 refused 1 syntax\n6 prepared q tables 1 predicates 1 parameters 1\n7 refused 9 argument count 1\n8 refused 10 argument kind 1\n9 refused 13 missing file\n10 refused 16 schema differs t\n",
+            "load t t.csv\n\
+             load t bad.csv\n\
+             run q 1\n\
+             prepare q SELECT w FROM t\n\
+             prepare q SELECT v FROM\n\
+             prepare q SELECT v FROM t WHERE v < ?\n\
+             run q\n\
+             run q 'x'\n\
+             load t gone.csv\n\
+             load t two.csv\n",
+            "1 loaded t rows 3 columns 1\n\
+             2 refused 15 not a table not csv 2\n\
+             3 refused 5 unknown statement q\n\
+             4 refused 3 unknown column w\n\
+             5 refused 1 syntax\n\
+             6 prepared q tables 1 predicates 1 parameters 1\n\
+             7 refused 9 argument count 1\n\
+             8 refused 10 argument kind 1\n\
+             9 refused 13 missing file\n\
+             10 refused 16 schema differs t\n",
             Status::DoneRefused,
         ),
         (
             "no data row",
             "load t none.csv\nprepare q SELECT a FROM t WHERE b < ?\nrun q 10\n",
-            "1 loaded t rows 0 columns 2\n2 prepared q tables 1 predicates 1 parameters 1\n3 ran q execution 1\nplan rows(seq(t))\ncost 1099511627776\nat 1\nend 0\n",
+            "1 loaded t rows 0 columns 2\n\
+             2 prepared q tables 1 predicates 1 parameters 1\n\
+             3 ran q execution 1\n\
+             plan rows(seq(t))\n\
+             cost 1099511627776\n\
+             at 1\n\
+             end 0\n",
             Status::Done,
         ),
         (
             "no parameter, twice",
             "load t t.csv\nprepare p SELECT v FROM t\nrun p\nrun p\n",
-            "1 loaded t rows 3 columns 1\n2 prepared p tables 1 predicates 0 parameters 0\n3 ran p execution 1\nplan rows(seq(t))\ncost 3298534883328\nat\nrow 1\nrow 5\nrow 12\nend 3\n4 ran p execution 2\nplan rows(seq(t))\ncost 3298534883328\nat\nrow 1\nrow 5\nrow 12\nend 3\n",
+            "1 loaded t rows 3 columns 1\n\
+             2 prepared p tables 1 predicates 0 parameters 0\n\
+             3 ran p execution 1\n\
+             plan rows(seq(t))\n\
+             cost 3298534883328\n\
+             at\n\
+             row 1\n\
+             row 5\n\
+             row 12\n\
+             end 3\n\
+             4 ran p execution 2\n\
+             plan rows(seq(t))\n\
+             cost 3298534883328\n\
+             at\n\
+             row 1\n\
+             row 5\n\
+             row 12\n\
+             end 3\n",
             Status::Done,
         ),
         (
             "quoted names",
-            "load \"all orders\" orders.csv\nprepare \"by day\" select town, \"order id\" from \"all orders\" as \"o\" where day >= 5 ;\nrun \"by day\"\n",
-            "1 loaded \"all orders\" rows 2 columns 3\n2 prepared \"by day\" tables 1 predicates 1 parameters 0\n3 ran \"by day\" execution 1\nplan rows(seq(o))\ncost 2199023255552\nat\nrow \"Bad \\\"Ems\\\"\",7\nend 1\n",
+            "load \"all orders\" orders.csv\n\
+             prepare \"by day\" select town, \"order id\" from \"all orders\" as \"o\" where day >= 5 ;\n\
+             run \"by day\"\n",
+            "1 loaded \"all orders\" rows 2 columns 3\n\
+             2 prepared \"by day\" tables 1 predicates 1 parameters 0\n\
+             3 ran \"by day\" execution 1\n\
+             plan rows(seq(o))\n\
+             cost 2199023255552\n\
+             at\n\
+             row \"Bad \\\"Ems\\\"\",7\n\
+             end 1\n",
             Status::Done,
         ),
         (
             "a reload under a prepared statement",
-            "load t t.csv\nprepare q SELECT v FROM t WHERE v < ?\nload t seven.csv\nrun q 10\nload t bad.csv\nrun q 10\n",
-            "1 loaded t rows 3 columns 1\n2 prepared q tables 1 predicates 1 parameters 1\n3 loaded t rows 1 columns 1\n4 ran q execution 1\nplan rows(seq(t))\ncost 1099511627776\nat 1\nrow 7\nend 1\n5 refused 15 not a table not csv 2\n6 ran q execution 2\nplan rows(seq(t))\ncost 1099511627776\nat 1\nrow 7\nend 1\n",
+            "load t t.csv\n\
+             prepare q SELECT v FROM t WHERE v < ?\n\
+             load t seven.csv\n\
+             run q 10\n\
+             load t bad.csv\n\
+             run q 10\n",
+            "1 loaded t rows 3 columns 1\n\
+             2 prepared q tables 1 predicates 1 parameters 1\n\
+             3 loaded t rows 1 columns 1\n\
+             4 ran q execution 1\n\
+             plan rows(seq(t))\n\
+             cost 1099511627776\n\
+             at 1\n\
+             row 7\n\
+             end 1\n\
+             5 refused 15 not a table not csv 2\n\
+             6 ran q execution 2\n\
+             plan rows(seq(t))\n\
+             cost 1099511627776\n\
+             at 1\n\
+             row 7\n\
+             end 1\n",
             Status::DoneRefused,
         ),
         (
             "what isn't built yet",
-            "load t t.csv\nprepare two SELECT a.v FROM t a, t b\nrun two\nprepare g SELECT COUNT(*) FROM t GROUP BY v\nrun g\nprepare o SELECT v FROM t ORDER BY v\nrun o\nprepare four SELECT v FROM t WHERE v < ? AND v < ? AND v < ? AND v < ?\nrun four 1 2 3\nrun four 1 2 3 4\nindex t v\nshow two\n",
-            "1 loaded t rows 3 columns 1\n2 prepared two tables 2 predicates 0 parameters 0\n3 refused 21 not built yet\n4 prepared g tables 1 predicates 0 parameters 0\n5 refused 21 not built yet\n6 prepared o tables 1 predicates 0 parameters 0\n7 refused 21 not built yet\n8 prepared four tables 1 predicates 4 parameters 4\n9 refused 9 argument count 4\n10 refused 21 not built yet\n11 refused 21 not built yet\n12 refused 21 not built yet\n",
+            "load t t.csv\n\
+             prepare two SELECT a.v FROM t a, t b\n\
+             run two\n\
+             prepare g SELECT COUNT(*) FROM t GROUP BY v\n\
+             run g\n\
+             prepare o SELECT v FROM t ORDER BY v\n\
+             run o\n\
+             prepare four SELECT v FROM t WHERE v < ? AND v < ? AND v < ? AND v < ?\n\
+             run four 1 2 3\n\
+             run four 1 2 3 4\n\
+             index t v\n\
+             show two\n",
+            "1 loaded t rows 3 columns 1\n\
+             2 prepared two tables 2 predicates 0 parameters 0\n\
+             3 refused 21 not built yet\n\
+             4 prepared g tables 1 predicates 0 parameters 0\n\
+             5 refused 21 not built yet\n\
+             6 prepared o tables 1 predicates 0 parameters 0\n\
+             7 refused 21 not built yet\n\
+             8 prepared four tables 1 predicates 4 parameters 4\n\
+             9 refused 9 argument count 4\n\
+             10 refused 21 not built yet\n\
+             11 refused 21 not built yet\n\
+             12 refused 21 not built yet\n",
             Status::DoneRefused,
         ),
         (
             "an IN: two equal operands, none, one of another kind, seventeen",
-            "load t t.csv\nprepare q SELECT v FROM t WHERE v IN (?, ?, 7)\nrun q 5 5\nrun q 5 12\nprepare e SELECT v FROM t WHERE v IN ()\nprepare x SELECT v FROM t WHERE v IN ('x')\nprepare m SELECT v FROM t WHERE v IN (1,2,3,4,5,6,7,8,9,10,11,12,13,14,15,16,17)\n",
-            "1 loaded t rows 3 columns 1\n2 prepared q tables 1 predicates 1 parameters 2\n3 ran q execution 1\nplan rows(seq(t))\ncost 3298534883328\nat 1\nrow 5\nend 1\n4 ran q execution 2\nplan rows(seq(t))\ncost 3298534883328\nat 2\nrow 5\nrow 12\nend 2\n5 refused 1 syntax\n6 refused 7 misfit v\n7 refused 8 too many operands\n",
+            "load t t.csv\n\
+             prepare q SELECT v FROM t WHERE v IN (?, ?, 7)\n\
+             run q 5 5\n\
+             run q 5 12\n\
+             prepare e SELECT v FROM t WHERE v IN ()\n\
+             prepare x SELECT v FROM t WHERE v IN ('x')\n\
+             prepare m SELECT v FROM t WHERE v IN (1,2,3,4,5,6,7,8,9,10,11,12,13,14,15,16,17)\n",
+            "1 loaded t rows 3 columns 1\n\
+             2 prepared q tables 1 predicates 1 parameters 2\n\
+             3 ran q execution 1\n\
+             plan rows(seq(t))\n\
+             cost 3298534883328\n\
+             at 1\n\
+             row 5\n\
+             end 1\n\
+             4 ran q execution 2\n\
+             plan rows(seq(t))\n\
+             cost 3298534883328\n\
+             at 2\n\
+             row 5\n\
+             row 12\n\
+             end 2\n\
+             5 refused 1 syntax\n\
+             6 refused 7 misfit v\n\
+             7 refused 8 too many operands\n",
             Status::DoneRefused,
         ),
         (
             "statements that can't be bound",
-            "load t t.csv\nprepare q SELECT v FROM u\nprepare q SELECT a.v FROM t a, t a\nprepare q SELECT v FROM t a, t b\nprepare q SELECT v FROM t WHERE v = 'x'\nprepare q SELECT SUM(v) FROM t\nprepare q SELECT v FROM t, t a, t b, t c, t d, t e\nprepare q SELECT v FROM t\nprepare q SELECT w FROM u\n",
-            "1 loaded t rows 3 columns 1\n2 refused 2 unknown table u\n3 refused 6 name taken a\n4 refused 4 ambiguous v\n5 refused 7 misfit v\n6 refused 19 not grouped SUM(v)\n7 refused 4 ambiguous v\n8 prepared q tables 1 predicates 0 parameters 0\n9 refused 6 name taken q\n",
+            "load t t.csv\n\
+             prepare q SELECT v FROM u\n\
+             prepare q SELECT a.v FROM t a, t a\n\
+             prepare q SELECT v FROM t a, t b\n\
+             prepare q SELECT v FROM t WHERE v = 'x'\n\
+             prepare q SELECT SUM(v) FROM t\n\
+             prepare q SELECT v FROM t, t a, t b, t c, t d, t e\n\
+             prepare q SELECT v FROM t\n\
+             prepare q SELECT w FROM u\n",
+            "1 loaded t rows 3 columns 1\n\
+             2 refused 2 unknown table u\n\
+             3 refused 6 name taken a\n\
+             4 refused 4 ambiguous v\n\
+             5 refused 7 misfit v\n\
+             6 refused 19 not grouped SUM(v)\n\
+             7 refused 4 ambiguous v\n\
+             8 prepared q tables 1 predicates 0 parameters 0\n\
+             9 refused 6 name taken q\n",
             Status::DoneRefused,
         ),
     ];

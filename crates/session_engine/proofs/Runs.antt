@@ -18,7 +18,7 @@ use Rattle.script_report.specs.declared.replies.Execution.{Execution}
 use Rattle.script_report.specs.declared.replies.Reply.{Reply}
 use Rattle.script_report.specs.declared.replies.Reply.TheVariants as reply
 use Rattle.catalog_model.specs.Catalogs.{Catalog, TableState, StatementState, find_table, rows_named}
-use Rattle.catalog_model.specs.Faults.{refusal}
+use Rattle.row_values.specs.Refusals.{refusal}
 use Rattle.catalog_model.specs.Instances.{Instance, instance_of}
 use Rattle.session_model.specs.Executions.{is_built, refusal_of_rows, execution_refusal, scan_execution}
 use Rattle.session_model.specs.State.{State}

@@ -73,7 +73,8 @@ impl Engine {
     #[tactic(auto, unfolding(session_model::specs::Step::Step))]
     pub fn step(&mut self, c: &Command, bytes: Option<&[u8]>) -> Reply
         requires { self.old.steps < 2 ^ 50 }
-        ensures step { result ≢ Reply.Spent → Step self.old.state (Says c.now) (option_map (λ file. file.now) bytes.entry) result self.new.state }
+        ensures step { result ≢ Reply.Spent → Step self.old.state (Says c.now)
+            (option_map (λ file. file.now) bytes.entry) result self.new.state }
         ensures spent { self.new.spent ≡ is_spent result }
         ensures lasting { self.old.spent ≡ true → result ≡ Reply.Spent }
         ensures counted { self.new.steps ≡ self.old.steps + 1 }

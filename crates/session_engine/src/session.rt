@@ -1,7 +1,7 @@
 //! A session's state, and the step of each command.
 ghost use Rattle.std.specs.Prelude.{◌≡◌, [], IfOk, OnErr, option_map, length};
 ghost use Rattle.row_values.specs.Statements.{kinds_of};
-ghost use Rattle.catalog_model.specs.Faults.{refusal};
+ghost use Rattle.row_values.specs.Refusals.{refusal};
 ghost use Rattle.session_model.specs.State.{initial_state};
 ghost use Rattle.session_model.specs.Step.{CommandStep, LoadStep, PrepareStep, RunStep};
 ghost use Rattle.session_engine.specs.Engines.{CountsOn, HasRoom};
@@ -44,7 +44,8 @@ pub fn refused(alloc: Global, code: u8) -> Reply
 
 /// A statement that was prepared under this name.
 fn prepared(name: Words, q: &Query) -> Reply
-    ensures { result ≡ Reply.Prepared name (length q.now.places) (length q.now.preds) (length (kinds_of q.now.places q.now.preds)) }
+    ensures { result ≡ Reply.Prepared name (length q.now.places) (length q.now.preds)
+        (length (kinds_of q.now.places q.now.preds)) }
 {
     Reply::Prepared {
         name,
@@ -70,7 +71,8 @@ impl Session {
     /// `load T FILE`, with the file's bytes where it is there.
     fn load(&mut self, table: &Words, file: Option<&[u8]>) -> Result<Reply, OutOfMemory>
         requires { HasRoom self.old }
-        ensures ok { IfOk result (λ reply. LoadStep self.old table.now (option_map (λ bytes. bytes.now) file.entry) reply self.new) }
+        ensures ok { IfOk result (λ reply. LoadStep self.old table.now
+            (option_map (λ bytes. bytes.now) file.entry) reply self.new) }
         ensures err { OnErr result (self.new ≡ self.old) }
         ensures counts { CountsOn self.old self.new }
     {
@@ -135,7 +137,8 @@ impl Session {
     /// The answer to a command, by its kind.
     pub fn dispatch(&mut self, command: &Command, file: Option<&[u8]>) -> Result<Reply, OutOfMemory>
         requires { HasRoom self.old }
-        ensures ok { IfOk result (λ reply. CommandStep self.old command.now (option_map (λ bytes. bytes.now) file.entry) reply self.new) }
+        ensures ok { IfOk result (λ reply. CommandStep self.old command.now
+            (option_map (λ bytes. bytes.now) file.entry) reply self.new) }
         ensures err { OnErr result (self.new ≡ self.old) }
         ensures counts { CountsOn self.old self.new }
     {

@@ -13,7 +13,7 @@ use Rattle.script_report.specs.declared.commands.Command.TheVariants.{Load, Inde
 use Rattle.script_report.specs.declared.replies.Reply.{Reply}
 use Rattle.script_report.specs.declared.replies.Reply.TheVariants as reply
 use Rattle.catalog_model.specs.Catalogs.{Version, with_version, with_statement}
-use Rattle.catalog_model.specs.Faults.{refusal}
+use Rattle.row_values.specs.Refusals.{missing_file, not_built, syntax}
 use Rattle.catalog_model.specs.Instances.{Instance, instance_of}
 use Rattle.catalog_model.specs.Loading.{loading_of}
 use Rattle.catalog_model.specs.Preparing.{preparing_of}
@@ -51,7 +51,7 @@ loads old name version = (
 )
 
 load_goes_on : (old : State) (name : List ℕ) (file : Option (List ℕ)) → Can (LoadStep old name file)
-load_goes_on old name None = refuses (refusal MISSING_FILE []) old
+load_goes_on old name None = refuses missing_file old
 load_goes_on old name (Some bytes) =
     by_result (loading_of (held_versions old.cursors) old.catalog name bytes) old (Loads old name) (loads old name)
 
@@ -98,18 +98,18 @@ run_goes_on old name args =
 
 command_goes_on : (old : State) (command : Command) (file : Option (List ℕ)) → Can (CommandStep old command file)
 command_goes_on old (Load table name) file = load_goes_on old table file
-command_goes_on old (Index table column) file = refuses (refusal NOT_BUILT []) old
+command_goes_on old (Index table column) file = refuses not_built old
 command_goes_on old (Prepare name select) file = prepare_goes_on old name select
 command_goes_on old (Run name args) file = run_goes_on old name args
-command_goes_on old (Cursor cursor name args) file = refuses (refusal NOT_BUILT []) old
-command_goes_on old (Fetch cursor rows) file = refuses (refusal NOT_BUILT []) old
-command_goes_on old (Close cursor) file = refuses (refusal NOT_BUILT []) old
-command_goes_on old (Evict name plan) file = refuses (refusal NOT_BUILT []) old
-command_goes_on old (Show name) file = refuses (refusal NOT_BUILT []) old
+command_goes_on old (Cursor cursor name args) file = refuses not_built old
+command_goes_on old (Fetch cursor rows) file = refuses not_built old
+command_goes_on old (Close cursor) file = refuses not_built old
+command_goes_on old (Evict name plan) file = refuses not_built old
+command_goes_on old (Show name) file = refuses not_built old
 
 pub goes_on : (old : State) (reading : Reading) (file : Option (List ℕ)) → IsSession old → is_silent reading ≡ false
     → CanStep old reading file
 unfolding Step
 goes_on old Silent file session spoken = absurd cc
 goes_on old (Says command) file session spoken = command_goes_on old command file
-goes_on old Bad file session spoken = refuses (refusal SYNTAX []) old
+goes_on old Bad file session spoken = refuses syntax old

@@ -2,10 +2,12 @@
 use Rattle.std.proofs.Common.{ℕ, ◌≡◌, ◌<◌, List, [], Option, Some, None, Result, Ok, Err, MatchOption, MatchResult, All, refl, sym, subst, arith}
 use Rattle.std.proofs.lemmas.List.Elements.{All-nil}
 use Rattle.outside_model.specs.Files.{Files}
-use Rattle.row_values.specs.Statements.{Statement}
+use Rattle.row_values.specs.Statements.{IsSoundQuery, Statement}
 use Rattle.row_values.specs.declared.refusals.Refusal.{Refusal}
 use Rattle.row_values.specs.declared.values.Value.{Value}
-use Rattle.sql_parser.specs.Statement.{Parts}
+use Rattle.csv_tables.specs.Tables.{IsTable}
+use Rattle.sql_parser.specs.Statement.{IsSound, Parts}
+use Rattle.script_report.proofs.ReadStatements.{statements_sound}
 use Rattle.script_report.specs.Commands.{Reading, Silent, Says, Bad, reading_of}
 use Rattle.script_report.specs.declared.commands.Command.{Command}
 use Rattle.script_report.specs.declared.commands.Command.TheVariants.{Load, Index, Prepare, Run, Cursor, Fetch, Close, Evict, Show}
@@ -31,6 +33,8 @@ empty = record {
   statement_names = refl;
   version_numbers = refl;
   numbered = All-nil (λ (table : TableState). table.now.number < 0);
+  are_tables = All-nil (λ (table : TableState). IsTable table.now.content);
+  are_sound = All-nil (λ (prepared : StatementState). IsSoundQuery prepared.statement);
   loaded = All-nil (λ (prepared : StatementState). All (IsLoaded []) prepared.statement.places);
   few_tables = omega arith;
   few_statements = omega arith;
@@ -72,13 +76,13 @@ load_keeps old new name (Some bytes) reply session step =
     (loaded (held_versions old.cursors) old.catalog name bytes version session.catalog e) l.keeps)
     (λ why r. refused why old new reply session r)
 
-prepare_keeps : (old new : State) (name : List ℕ) (select : Parts) (reply : Reply) → IsSession old
+prepare_keeps : (old new : State) (name : List ℕ) (select : Parts) (reply : Reply) → IsSound select → IsSession old
     → PrepareStep old name select reply new → IsSession new
-prepare_keeps old new name select reply session step =
+prepare_keeps old new name select reply parts session step =
     by_result (IsSession new) (preparing_of old.catalog name select) (λ q. Prepares old name q reply new)
     (λ why. Refuses why old reply new) step
     (λ q e p. with_catalog old new (with_statement old.catalog name q) session
-    (prepared (held_versions old.cursors) old.catalog name select q session.catalog e) p.keeps)
+    (prepared (held_versions old.cursors) old.catalog name select q parts session.catalog e) p.keeps)
     (λ why r. refused why old new reply session r)
 
 executed : (old new : State) (name : List ℕ) (q : Statement) (args : List Value) (reply : Reply) → IsSession old
@@ -100,29 +104,38 @@ run_keeps old new name args reply session step =
     (λ why r. refused why old new reply session r))
     (λ why r. refused why old new reply session r)
 
-command_keeps : (old new : State) (command : Command) (file : Option (List ℕ)) (reply : Reply) → IsSession old
-    → CommandStep old command file reply new → IsSession new
-command_keeps old new (Load table name) file reply session step = load_keeps old new table file reply session step
-command_keeps old new (Index table column) file reply session step = refused _ old new reply session step
-command_keeps old new (Prepare name select) file reply session step =
-    prepare_keeps old new name select reply session step
-command_keeps old new (Run name args) file reply session step = run_keeps old new name args reply session step
-command_keeps old new (Cursor cursor name args) file reply session step = refused _ old new reply session step
-command_keeps old new (Fetch cursor rows) file reply session step = refused _ old new reply session step
-command_keeps old new (Close cursor) file reply session step = refused _ old new reply session step
-command_keeps old new (Evict name plan) file reply session step = refused _ old new reply session step
-command_keeps old new (Show name) file reply session step = refused _ old new reply session step
+-- where this is said, a statement that is prepared is sound
+abbrev PreparesSound : Reading → Type 0
+PreparesSound reading = (name : List ℕ) (select : Parts) → reading ≡ Says (Prepare name select) → IsSound select
 
-pub kept : (old : State) (reading : Reading) (file : Option (List ℕ)) (reply : Reply) (new : State) → IsSession old
-    → Step old reading file reply new → IsSession new
+command_keeps : (old new : State) (command : Command) (file : Option (List ℕ)) (reply : Reply)
+    → PreparesSound (Says command) → IsSession old → CommandStep old command file reply new → IsSession new
+command_keeps old new (Load table name) file reply sound session step = load_keeps old new table file reply session step
+command_keeps old new (Index table column) file reply sound session step = refused _ old new reply session step
+command_keeps old new (Prepare name select) file reply sound session step =
+    prepare_keeps old new name select reply (sound name select refl) session step
+command_keeps old new (Run name args) file reply sound session step = run_keeps old new name args reply session step
+command_keeps old new (Cursor cursor name args) file reply sound session step = refused _ old new reply session step
+command_keeps old new (Fetch cursor rows) file reply sound session step = refused _ old new reply session step
+command_keeps old new (Close cursor) file reply sound session step = refused _ old new reply session step
+command_keeps old new (Evict name plan) file reply sound session step = refused _ old new reply session step
+command_keeps old new (Show name) file reply sound session step = refused _ old new reply session step
+
+kept_by : (old : State) (reading : Reading) (file : Option (List ℕ)) (reply : Reply) (new : State)
+    → PreparesSound reading → IsSession old → Step old reading file reply new → IsSession new
 unfolding Step
-kept old Silent file reply new session step = elim step [ ]
-kept old (Says command) file reply new session step = command_keeps old new command file reply session step
-kept old Bad file reply new session step = refused _ old new reply session step
+kept_by old Silent file reply new sound session step = elim step [ ]
+kept_by old (Says command) file reply new sound session step = command_keeps old new command file reply sound session step
+kept_by old Bad file reply new sound session step = refused _ old new reply session step
+
+pub kept : (old : State) (text : List ℕ) (file : Option (List ℕ)) (reply : Reply) (new : State) → IsSession old
+    → Step old (reading_of text) file reply new → IsSession new
+kept old text file reply new session step =
+    kept_by old (reading_of text) file reply new (statements_sound text) session step
 
 pub kept_along : (files : Files) (old : State) (lines : List Line) (replies : List Reply) (new : State) → IsSession old
     → IsChain (StepOver files) old lines replies new → IsSession new
 kept_along files old lines replies new session chain =
     keeps (StepOver files) IsSession
-    (λ a line reply b h step. kept a (reading_of line.text) (file_of files (reading_of line.text)) reply b h step)
+    (λ a line reply b h step. kept a line.text (file_of files (reading_of line.text)) reply b h step)
     old lines replies new session chain

@@ -1,8 +1,8 @@
 -- Executions: what is executed so far, and what an execution shows.
 use Rattle.std.specs.Prelude.{ℕ, ◌≡◌, ◌*◌, ◌==◌, ◌&&◌, max, nat_le, List, [], length, Bool, Option, Some, None, if◌then◌else◌}
+use Rattle.row_values.specs.Refusals as refused
 use Rattle.row_values.specs.Statements.{Statement, selectivity_count}
 use Rattle.row_values.specs.declared.refusals.Refusal.{Refusal}
-use Rattle.row_values.specs.declared.refusals.TheConstants.{TOO_MANY_ROWS, NOT_BUILT}
 use Rattle.row_values.specs.declared.values.Value.{Value}
 use Rattle.plan_trees.specs.declared.plans.Access.TheVariants.{Seq}
 use Rattle.plan_trees.specs.PlanSpace.{IsValidTop}
@@ -12,7 +12,6 @@ use Rattle.statement_meaning.specs.Combinations.{rows_at}
 use Rattle.statement_meaning.specs.Meaning.{meaning_of}
 use Rattle.statement_meaning.specs.Vectors.{vector_of}
 use Rattle.script_report.specs.declared.replies.Execution.{Execution}
-use Rattle.catalog_model.specs.Faults.{refusal}
 use Rattle.plan_trees.specs.declared.scale.TheConstants.{COST_SCALE}
 use Rattle.session_model.specs.declared.TheConstants.{RESULT_LIMIT, SELECTIVITIES_BUILT}
 
@@ -25,8 +24,8 @@ is_built q =
 -- why a statement with so many result rows isn't executed
 abbrev pub refusal_of_rows : Statement → ℕ → Option Refusal
 refusal_of_rows q row_count =
-    if is_built q then (if nat_le row_count RESULT_LIMIT then None else Some (refusal TOO_MANY_ROWS [])) else
-    Some (refusal NOT_BUILT [])
+    if is_built q then (if nat_le row_count RESULT_LIMIT then None else Some refused.too_many_rows) else
+    Some refused.not_built
 
 -- the same of the statement over these rows of its places
 abbrev pub execution_refusal : Statement → List (List (List Value)) → List Value → Option Refusal

@@ -3,7 +3,7 @@ use Rattle.std.specs.Prelude.{ℕ, ◌≡◌, List, false, Option}
 use Rattle.std.specs.Option.{option_map}
 use Rattle.outside_model.specs.declared.TheConstants.{FILE_LIMIT}
 use Rattle.outside_model.specs.Files.{Files, up_to}
-use Rattle.script_report.specs.Commands.{Reading}
+use Rattle.script_report.specs.Commands.{Reading, reading_of}
 use Rattle.script_report.specs.declared.replies.Reply.{Reply}
 use Rattle.session_model.specs.Run.{Line, IsChain, StepOver, is_silent}
 use Rattle.session_model.specs.Session.{IsSession}
@@ -14,11 +14,11 @@ use Rattle.session_model.specs.declared.settings.Settings.{Settings}
 abbrev pub FirstStateLaw : Type 0
 FirstStateLaw = (settings : Settings) → IsSession (initial_state settings)
 
--- kept by every step
+-- kept by every step of a line
 abbrev pub KeptLaw : Type 0
 KeptLaw =
-    (old : State) (reading : Reading) (file : Option (List ℕ)) (reply : Reply) (new : State) → IsSession old
-    → Step old reading file reply new → IsSession new
+    (old : State) (text : List ℕ) (file : Option (List ℕ)) (reply : Reply) (new : State) → IsSession old
+    → Step old (reading_of text) file reply new → IsSession new
 
 abbrev pub RunLaw : Type 0
 RunLaw =

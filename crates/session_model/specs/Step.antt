@@ -1,9 +1,9 @@
 -- What one line may answer, and what it leaves.
 use Rattle.std.specs.Prelude.{ℕ, ◌≡◌, ◌+◌, List, [], length, map, option_and_then, Option, Some, None, MatchOption, MatchResult}
 use Rattle.outside_model.specs.Files.{Files}
+use Rattle.row_values.specs.Refusals as refused
 use Rattle.row_values.specs.Statements.{Statement, kinds_of}
 use Rattle.row_values.specs.declared.refusals.Refusal.{Refusal}
-use Rattle.row_values.specs.declared.refusals.TheConstants.{SYNTAX, MISSING_FILE, NOT_BUILT}
 use Rattle.row_values.specs.declared.values.Value.{Value}
 use Rattle.sql_parser.specs.Statement.{Parts}
 use Rattle.statement_meaning.specs.Meaning.{meaning_of}
@@ -15,7 +15,6 @@ use Rattle.script_report.specs.declared.replies.Execution.{Execution}
 use Rattle.script_report.specs.declared.replies.Reply.{Reply}
 use Rattle.script_report.specs.declared.replies.Reply.TheVariants as reply
 use Rattle.catalog_model.specs.Catalogs.{Version, with_version, with_statement, tables_of}
-use Rattle.catalog_model.specs.Faults.{refusal}
 use Rattle.catalog_model.specs.Instances.{instance_of}
 use Rattle.catalog_model.specs.Loading.{loading_of}
 use Rattle.catalog_model.specs.Preparing.{preparing_of}
@@ -35,7 +34,7 @@ pub record Loads (old : State) (name : List ℕ) (version : Version) (answer : R
 -- `load T FILE`: the file is there, and nothing speaks against it
 abbrev pub LoadStep : State → List ℕ → Option (List ℕ) → Reply → State → Type 0
 LoadStep old name file answer new = MatchOption file
-    (Refuses (refusal MISSING_FILE []) old answer new)
+    (Refuses refused.missing_file old answer new)
     (λ bytes. MatchResult (loading_of (held_versions old.cursors) old.catalog name bytes)
     (λ version. Loads old name version answer new)
     (λ why. Refuses why old answer new))
@@ -77,7 +76,7 @@ RunStep old name args answer new = MatchResult (instance_of old.catalog name arg
 
 -- a command that isn't built yet
 abbrev pub NotBuiltStep : State → Reply → State → Type 0
-NotBuiltStep old answer new = Refuses (refusal NOT_BUILT []) old answer new
+NotBuiltStep old answer new = Refuses refused.not_built old answer new
 
 -- what a command may answer, with the file that it asks for
 abbrev pub CommandStep : State → Command → Option (List ℕ) → Reply → State → Type 0
@@ -95,7 +94,7 @@ CommandStep old (Show name) file answer new = NotBuiltStep old answer new
 unfoldable pub Step : State → Reading → Option (List ℕ) → Reply → State → Type 0
 Step old Silent file answer new = ⊥
 Step old (Says command) file answer new = CommandStep old command file answer new
-Step old Bad file answer new = Refuses (refusal SYNTAX []) old answer new
+Step old Bad file answer new = Refuses refused.syntax old answer new
 
 -- the name of the file that a line asks for
 abbrev pub asks_for : Reading → Option (List ℕ)

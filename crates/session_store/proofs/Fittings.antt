@@ -5,7 +5,7 @@ use Rattle.row_values.specs.Statements.{Statement, kinds_of}
 use Rattle.row_values.specs.declared.refusals.Refusal.{Refusal}
 use Rattle.row_values.specs.declared.values.Value.{Value}
 use Rattle.catalog_model.specs.Catalogs.{Catalog, find_statement}
-use Rattle.catalog_model.specs.Faults.{refusal}
+use Rattle.row_values.specs.Refusals.{unknown_statement}
 use Rattle.catalog_model.specs.Instances.{Instance, args_refusal, refused_or, instance_in, instance_of}
 
 abbrev instance : Statement → List Value → Instance
@@ -13,7 +13,7 @@ instance q args = record { statement = q; args = args }
 
 pub unknown : (catalog : Catalog) (name : List ℕ) (args : List Value) (shown : List ℕ)
     → find_statement catalog.statements name ≡ None → shown ≡ canonical_name name
-    → instance_of catalog name args ≡ Err (refusal 5 shown)
+    → instance_of catalog name args ≡ Err (unknown_statement shown)
 unfolding instance_of
 unknown catalog name args shown n e = rw (n, e) refl
 

@@ -5,7 +5,7 @@ use Rattle.std.specs.Str.{bytes_eq}
 use Rattle.indexmap.specs.IndexMap.{insert_entry}
 use Rattle.row_values.specs.Statements.{Statement}
 use Rattle.row_values.specs.declared.columns.Column.{Column}
-use Rattle.csv_tables.specs.Tables.{TableValue}
+use Rattle.csv_tables.specs.Tables.{IsTable, TableValue}
 use Rattle.catalog_model.specs.Catalogs.{Catalog, TableState, Version, find_table, put_version, next_version, with_version}
 use Rattle.catalog_model.specs.Held.{cells_of, present_versions, cells_in, bytes_in, cells_held, bytes_held, numbers_differ}
 use Rattle.catalog_model.specs.Loading.{are_same_columns, has_other_columns, limit_passed_by}
@@ -177,18 +177,18 @@ catalog_after now es es' ss name n held content bytes versions view e a b c d =
 
 -- the invariant after it
 pub kept_after : (now after : Catalog) (name : List ℕ) (content : TableValue) (bytes : ℕ) (totals : Totals)
-    → IsCatalog [] now → after ≡ with_version now name (next_version now content bytes) →
+    → IsCatalog [] now → after ≡ with_version now name (next_version now content bytes) → IsTable content →
     has_other_columns (find_table now.tables name) content ≡ false
     → AreTotals totals (put_version now.tables name (next_version now content bytes)) →
     limit_passed_by [] (put_version now.tables name (next_version now content bytes)) ≡ None
     → IsKept after totals.cells totals.bytes
-kept_after now after name content bytes totals sound e columns are limits =
+kept_after now after name content bytes totals sound e table columns are limits =
     subst (λ (k : Catalog). IsKept k totals.cells totals.bytes) (sym e)
     (record {
       cell_count = are.cells;
       byte_count = are.bytes;
       sound =
-          kept [] now name (next_version now content bytes) sound refl columns limits;
+          kept [] now name (next_version now content bytes) sound refl table columns limits;
     })
 
 -- no column of the one

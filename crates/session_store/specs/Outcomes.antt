@@ -22,6 +22,11 @@ abbrev pub Keeps : Catalog → List ℕ → Version → Result (Unit {0}) StoreF
 Keeps old name version (Ok done) new = new ≡ with_version old name version
 Keeps old name version (Err fault) new = (fault ≡ Memory) × (new ≡ old)
 
+-- the statement is kept behind the others, or memory was short and nothing changed
+abbrev pub KeepsStatement : Catalog → List ℕ → Statement → Result (Unit {0}) StoreFault → Catalog → Type 0
+KeepsStatement old name q (Ok done) new = new ≡ with_statement old name q
+KeepsStatement old name q (Err fault) new = (fault ≡ Memory) × (new ≡ old)
+
 -- the version that is wanted is kept and its rows and columns are told; or nothing changed
 abbrev pub Loads : Result Version Refusal → Catalog → List ℕ → Result (ℕ × ℕ) StoreFault → Catalog → Type 0
 Loads wanted old name (Ok counts) new =

@@ -1,8 +1,5 @@
 //! Why the catalog turns a call down.
-ghost use Rattle.std.specs.Prelude.{◌≡◌};
-ghost use Rattle.catalog_model.specs.Faults.{refusal};
-
-use row_values::{OutOfMemory, Refusal, Words};
+use row_values::{OutOfMemory, Refusal};
 use std::alloc::AllocFailed;
 
 /// A refusal, or want of memory. Neither changes the catalog.
@@ -10,13 +7,6 @@ use std::alloc::AllocFailed;
 pub enum StoreFault {
     Refused(Refusal),
     Memory,
-}
-
-/// The refusal of this number that shows this.
-pub fn refused(code: u8, shown: Words) -> StoreFault
-    ensures { result ≡ StoreFault.Refused (refusal code shown) }
-{
-    StoreFault::Refused(Refusal { code, shown })
 }
 
 impl From<OutOfMemory> for StoreFault {

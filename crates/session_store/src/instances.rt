@@ -1,30 +1,18 @@
 //! Instances: a prepared statement with arguments that fit its parameters.
 ghost use Rattle.std.specs.Prelude.{◌≡◌, IfOk, length};
-ghost use Rattle.std.specs.Fmt.{decimal};
 ghost use Rattle.catalog_model.specs.Instances as instances;
 ghost use Rattle.session_store.specs.Outcomes.{Instantiates};
 
-use crate::faults::{StoreFault, refused};
+use crate::faults::StoreFault;
 use crate::loading::is_same_kind;
 use crate::store::Store;
-use row_values::{
-    ARGUMENT_COUNT, ARGUMENT_KIND, Kind, OutOfMemory, Refusal, UNKNOWN_STATEMENT, Value, Words,
-    canonical_name,
-};
+use row_values::{Kind, OutOfMemory, Refusal, Value, Words, canonical_name};
 use std::alloc::Global;
 
 /// A statement that is executed with arguments that fit it, by its number.
 #[derive(Clone, Copy, Debug)]
 pub struct Instance {
     pub statement: u32,
-}
-
-/// The number in decimal.
-fn number_text(alloc: Global, number: usize) -> Result<Words, OutOfMemory>
-    ensures { IfOk result (λ text. text ≡ decimal number) }
-{
-    let text = format!(in alloc; "{number}")?;
-    Ok(Words::from_string(text))
 }
 
 /// The position, from 1, of the first argument of another kind than its parameter.
@@ -49,17 +37,11 @@ fn args_refusal(
     ensures { IfOk result (λ refusal. refusal ≡ instances.args_refusal kinds.now args.now) }
 {
     if args.len() != kinds.len() {
-        return Ok(Some(Refusal {
-            code: ARGUMENT_COUNT,
-            shown: number_text(alloc, kinds.len())?,
-        }));
+        return Ok(Some(Refusal::argument_count(alloc, kinds.len())?));
     }
     match first_misfit(kinds, args) {
         None => Ok(None),
-        Some(position) => Ok(Some(Refusal {
-            code: ARGUMENT_KIND,
-            shown: number_text(alloc, position)?,
-        })),
+        Some(position) => Ok(Some(Refusal::argument_kind(alloc, position)?)),
     }
 }
 
@@ -71,7 +53,7 @@ impl Store {
     {
         let Some(statement) = self.find(name) else {
             let shown = canonical_name(self.alloc, name.as_str())?;
-            return Err(refused(UNKNOWN_STATEMENT, shown));
+            return Err(StoreFault::Refused(Refusal::unknown_statement(shown)));
         };
         match args_refusal(self.alloc, self.query(statement).kinds(), args)? {
             Some(why) => Err(StoreFault::Refused(why)),

@@ -1,6 +1,7 @@
 //! Loading a table: its first version, or a new one in the place of the one before.
 ghost use Rattle.std.specs.Prelude.{◌≡◌, ◌≤◌, ◌<◌, ◌^◌, [], IfOk, List, false, length, None};
 ghost use Rattle.std.specs.Option.{option_map};
+ghost use Rattle.csv_tables.specs.Tables.{IsTable};
 ghost use Rattle.catalog_model.specs.Catalogs.{TableState, find_table, put_version, next_version};
 ghost use Rattle.catalog_model.specs.Faults.{fault_text as shown_fault};
 ghost use Rattle.catalog_model.specs.Held.{cells_of as cells_in_table};
@@ -8,15 +9,12 @@ ghost use Rattle.catalog_model.specs.Loading as loading;
 ghost use Rattle.session_store.specs.Outcomes.{Loads, Keeps};
 ghost use Rattle.session_store.specs.Kept.{AreTotals};
 
-use crate::faults::{StoreFault, refused};
+use crate::faults::StoreFault;
 use crate::store::{Held, Store};
 use catalog_model::{HELD_BYTE_LIMIT, HELD_CELL_LIMIT, TABLE_LIMIT};
 use csv_tables::{Table, TableFault, read_table};
 use outside_model::FILE_LIMIT;
-use row_values::{
-    Column, FILE_TOO_LONG, Kind, NOT_A_TABLE, OutOfMemory, SCHEMA_DIFFERS, STORE_LIMIT, Words,
-    canonical_name,
-};
+use row_values::{Column, Kind, OutOfMemory, Refusal, Words, canonical_name};
 use std::alloc::Global;
 use std::rc::Rc;
 
@@ -81,7 +79,8 @@ struct Totals {
 
 /// Which limit is passed, the first of them.
 fn passed_limit(totals: Totals) -> Option<&'static str>
-    ensures { (tables : List TableState) → AreTotals totals tables → option_map (λ limit. limit.now) result ≡ loading.limit_passed_by [] tables }
+    ensures { (tables : List TableState) → AreTotals totals tables
+        → option_map (λ limit. limit.now) result ≡ loading.limit_passed_by [] tables }
 {
     if totals.tables > TABLE_LIMIT {
         return Some("tables");
@@ -137,9 +136,11 @@ impl Store {
         bytes: usize,
         totals: Totals,
     ) -> Result<(), StoreFault>
+        requires sound { IsTable table }
         requires columns { loading.has_other_columns (find_table self.old.tables name.now) table ≡ false }
         requires totals { AreTotals totals (put_version self.old.tables name.now (next_version self.old table bytes)) }
-        requires limits { loading.limit_passed_by [] (put_version self.old.tables name.now (next_version self.old table bytes)) ≡ None }
+        requires limits { loading.limit_passed_by []
+            (put_version self.old.tables name.now (next_version self.old table bytes)) ≡ None }
         requires versions { self.old.versions < 2 ^ 62 }
         ensures { Keeps self.old name.now (next_version self.old table bytes) result self.new }
     {
@@ -164,14 +165,16 @@ impl Store {
     fn keep(&mut self, name: &Words, table: Table, bytes: usize) -> Result<(u32, u32), StoreFault>
         requires bytes { bytes ≤ FILE_LIMIT }
         requires versions { self.old.versions < 2 ^ 62 }
-        ensures { Loads (loading.keeping_of [] self.old.tables name.now (next_version self.old table bytes)) self.old name.now result self.new }
+        ensures { Loads (loading.keeping_of [] self.old.tables name.now (next_version self.old table bytes))
+            self.old name.now result self.new }
     {
         if self.has_other_columns(name, &table) {
-            return Err(refused(SCHEMA_DIFFERS, canonical_name(self.alloc, name.as_str())?));
+            let shown = canonical_name(self.alloc, name.as_str())?;
+            return Err(StoreFault::Refused(Refusal::schema_differs(shown)));
         }
         let totals = self.totals_with(name, &table, bytes);
         if let Some(limit) = passed_limit(totals) {
-            return Err(refused(STORE_LIMIT, Words::of(self.alloc, limit)?));
+            return Err(StoreFault::Refused(Refusal::store_limit(self.alloc, limit)?));
         }
         let rows = table.len() as u32;
         let columns = table.schema().columns().len() as u32;
@@ -187,11 +190,14 @@ impl Store {
         ensures { Loads (loading.loading_of [] self.old table.now bytes.now) self.old table.now result self.new }
     {
         if bytes.len() > FILE_LIMIT {
-            return Err(refused(FILE_TOO_LONG, Words::empty(self.alloc)));
+            return Err(StoreFault::Refused(Refusal::file_too_long(self.alloc)));
         }
         match read_table(self.alloc, bytes) {
             Err(TableFault::Memory) => Err(StoreFault::Memory),
-            Err(fault) => Err(refused(NOT_A_TABLE, fault_text(self.alloc, fault)?)),
+            Err(fault) => {
+                let shown = fault_text(self.alloc, fault)?;
+                Err(StoreFault::Refused(Refusal::not_a_table(shown)))
+            }
             Ok(content) => self.keep(table, content, bytes.len()),
         }
     }

@@ -1,19 +1,18 @@
 //! Preparing a statement: it is bound to the tables that are loaded, and kept under its name.
-ghost use Rattle.std.specs.Prelude.{◌≡◌, ◌≢◌};
+ghost use Rattle.std.specs.Prelude.{◌≡◌, ◌≢◌, ◌<◌, All, None, length};
 ghost use Rattle.name_binder.specs.Binding.{binding_of};
-ghost use Rattle.catalog_model.specs.Catalogs.{schemas_of};
+ghost use Rattle.catalog_model.specs.Catalogs.{find_statement, schemas_of};
 ghost use Rattle.catalog_model.specs.Faults as faults;
 ghost use Rattle.catalog_model.specs.Preparing.{preparing_of};
-ghost use Rattle.session_store.specs.Outcomes.{Binds, Prepares};
+ghost use Rattle.catalog_model.specs.Sound.{IsLoaded};
+ghost use Rattle.catalog_model.specs.declared.TheConstants.{STATEMENT_LIMIT};
+ghost use Rattle.session_store.specs.Outcomes.{Binds, KeepsStatement, Prepares};
 
-use crate::faults::{StoreFault, refused};
+use crate::faults::StoreFault;
 use crate::store::Store;
 use catalog_model::STATEMENT_LIMIT;
 use name_binder::{BindFault, bind};
-use row_values::{
-    AMBIGUOUS, MISFIT, NAME_TAKEN, NOT_GROUPED, Query, STORE_LIMIT, TOO_MANY, UNKNOWN_COLUMN,
-    UNKNOWN_TABLE, Words, canonical_name,
-};
+use row_values::{Query, Refusal, Words, canonical_name};
 use sql_parser::Select;
 
 /// The refusal of a statement that can't be bound.
@@ -21,17 +20,18 @@ fn bind_refusal(fault: BindFault) -> StoreFault
     ensures refused { fault ≢ BindFault.Memory → result ≡ StoreFault.Refused (faults.bind_refusal fault) }
     ensures memory { fault ≡ BindFault.Memory → result ≡ StoreFault.Memory }
 {
-    match fault {
-        BindFault::UnknownTable(shown) => refused(UNKNOWN_TABLE, shown),
-        BindFault::AliasTwice(shown) => refused(NAME_TAKEN, shown),
-        BindFault::UnknownColumn(shown) => refused(UNKNOWN_COLUMN, shown),
-        BindFault::Ambiguous(shown) => refused(AMBIGUOUS, shown),
-        BindFault::Misfit(shown) => refused(MISFIT, shown),
-        BindFault::TooMany(shown) => refused(TOO_MANY, shown),
-        BindFault::NotGrouped(shown) => refused(NOT_GROUPED, shown),
-        BindFault::SumOfText(shown) => refused(MISFIT, shown),
-        BindFault::Memory => StoreFault::Memory,
-    }
+    let refusal = match fault {
+        BindFault::UnknownTable(shown) => Refusal::unknown_table(shown),
+        BindFault::AliasTwice(shown) => Refusal::name_taken(shown),
+        BindFault::UnknownColumn(shown) => Refusal::unknown_column(shown),
+        BindFault::Ambiguous(shown) => Refusal::ambiguous(shown),
+        BindFault::Misfit(shown) => Refusal::misfit(shown),
+        BindFault::TooMany(shown) => Refusal::too_many(shown),
+        BindFault::NotGrouped(shown) => Refusal::not_grouped(shown),
+        BindFault::SumOfText(shown) => Refusal::misfit(shown),
+        BindFault::Memory => return StoreFault::Memory,
+    };
+    StoreFault::Refused(refusal)
 }
 
 impl Store {
@@ -45,6 +45,18 @@ impl Store {
         }
     }
 
+    /// Puts a statement whose tables are loaded under a free name, behind the others.
+    fn put_statement(&mut self, name: &Words, q: Query) -> Result<(), StoreFault>
+        requires free { find_statement self.old.statements name.now ≡ None }
+        requires loaded { All (IsLoaded self.old.tables) q.places }
+        requires room { length self.old.statements < STATEMENT_LIMIT }
+        ensures { KeepsStatement self.old name.now q result self.new }
+    {
+        q.sound();
+        self.statements.insert(name.copy(self.alloc)?, q)?;
+        Ok(())
+    }
+
     /// Keeps the statement under this name, and tells its number, from 0. It is refused where the name is taken, the
     /// statement can't be bound, or there are too many.
     #[tactic(auto, unfolding(catalog_model::specs::Preparing::preparing_of))]
@@ -52,7 +64,8 @@ impl Store {
         ensures { Prepares (preparing_of self.old name.now select.now) self.old name.now result self.new }
     {
         if self.statements.contains_key(name) {
-            return Err(refused(NAME_TAKEN, canonical_name(self.alloc, name.as_str())?));
+            let shown = canonical_name(self.alloc, name.as_str())?;
+            return Err(StoreFault::Refused(Refusal::name_taken(shown)));
         }
         let q = match self.bound(select) {
             Ok(q) => q,
@@ -60,9 +73,10 @@ impl Store {
         };
         let number = self.statements.len();
         if number >= STATEMENT_LIMIT {
-            return Err(refused(STORE_LIMIT, Words::of(self.alloc, "statements")?));
+            let refusal = Refusal::store_limit(self.alloc, "statements")?;
+            return Err(StoreFault::Refused(refusal));
         }
-        self.statements.insert(name.copy(self.alloc)?, q)?;
+        self.put_statement(name, q)?;
         Ok(number as u32)
     }
 }

@@ -83,7 +83,8 @@ impl Store {
 
     /// The number of the statement of this name, from 0; none exactly where there is none.
     pub fn find(&self, name: &Words) -> Option<u32>
-        ensures found { IfSome result (λ number. option_map (λ s. s.statement) (slice_get self.now.statements number) ≡ find_statement self.now.statements name.now) }
+        ensures found { IfSome result (λ number. option_map (λ s. s.statement)
+            (slice_get self.now.statements number) ≡ find_statement self.now.statements name.now) }
         ensures within { IfSome result (λ number. number < length self.now.statements) }
         ensures none { IfNone result (find_statement self.now.statements name.now ≡ None) }
     {
@@ -108,7 +109,8 @@ impl Store {
     /// Whether the statement of this number reads the table of this name, under whatever alias.
     pub fn reads(&self, statement: u32, table: &Words) -> bool
         requires { statement < length self.now.statements }
-        ensures { (q : Bound) → option_map (λ s. s.statement) (slice_get self.now.statements statement) ≡ Some q → result ≡ reads_table table.now q.places }
+        ensures { (q : Bound) → option_map (λ s. s.statement) (slice_get self.now.statements statement) ≡ Some q
+            → result ≡ reads_table table.now q.places }
     {
         is_read(table, self.query(statement).places())
     }
@@ -116,7 +118,8 @@ impl Store {
     /// The present table of each of these places, in their order.
     fn tables_of_places(&self, places: &[Place]) -> Result<Vec<Rc<Table>>, OutOfMemory>
         requires { All (IsLoaded self.now.tables) places.now }
-        ensures { IfOk result (λ tables. map (λ table. Some table.value) tables.items ≡ map (λ place. find_table self.now.tables place.table) places.now) }
+        ensures { IfOk result (λ tables. map (λ table. Some table.value) tables.items
+            ≡ map (λ place. find_table self.now.tables place.table) places.now) }
     {
         let mut tables = Vec::new(self.alloc);
         for place in places {
@@ -131,7 +134,10 @@ impl Store {
     /// The present table of each place of the statement of this number, in FROM order.
     pub fn tables_of(&self, statement: u32) -> Result<Vec<Rc<Table>>, OutOfMemory>
         requires { statement < length self.now.statements }
-        ensures { IfOk result (λ tables. (q : Bound) → option_map (λ s. s.statement) (slice_get self.now.statements statement) ≡ Some q → map (λ table. Some table.value) tables.items ≡ map (λ place. find_table self.now.tables place.table) q.places) }
+        ensures { IfOk result (λ tables. (q : Bound)
+            → option_map (λ s. s.statement) (slice_get self.now.statements statement) ≡ Some q
+            → map (λ table. Some table.value) tables.items
+            ≡ map (λ place. find_table self.now.tables place.table) q.places) }
     {
         let tables = self.tables_of_places(self.query(statement).places())?;
         Ok(tables)

@@ -1,18 +1,17 @@
-use Rattle.std.proofs.Common.{◌≡◌, ◌∙◌, ap, sym, subst, List, Some, None}
+use Rattle.std.proofs.Common.{◌≡◌, ◌∙◌, ap, sym, Err, List, Some, None}
 use Rattle.row_values.specs.Names.{canonical_name}
 use Rattle.row_values.specs.Statements.{kinds_of}
 use Rattle.row_values.specs.declared.values.Kind.{Kind}
 use Rattle.catalog_model.specs.Catalogs.{find_statement}
-use Rattle.catalog_model.specs.Instances.{args_refusal, instance_of}
-use Rattle.session_store.specs.Outcomes.{Says}
+use Rattle.catalog_model.specs.Instances.{args_refusal}
 use Rattle.session_store.proofs.Fittings.{unknown, misfit, fitting}
 use Rattle.session_store.proofs.store.Store.instance.Goals as goal
 
 pub returns-in_default : goal.returns-in_default
 returns-in_default c =
     let shown = c.in_ok-shown.ensures ∙ ap canonical_name c.as_str.ensures in
-    subst (Says (instance_of c.args.self.now c.args.name.now c.args.args.now)) (sym c.refused.ensures)
-    (unknown c.args.self.now c.args.name.now c.args.args.now _ c.in_default.ensures.none shown)
+    unknown c.args.self.now c.args.name.now c.args.args.now _ c.in_default.ensures.none shown
+    ∙ ap Err (sym c.unknown_statement.ensures)
 
 pub returns-in-Some-2 : goal.returns-in-Some-2
 returns-in-Some-2 c =

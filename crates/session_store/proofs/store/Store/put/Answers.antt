@@ -13,7 +13,7 @@ invariant_of-self-2 c =
     c.self.inside.versions c.self.view_is c.in_ok-insert.ensures.entries c.in_ok-name.ensures c.in_ok-table.ensures.ok
     refl refl in
     kept_after c.args.self.now _ c.args.name.now c.args.table c.args.bytes c.args.totals now.sound after
-    c.requires.columns c.requires.totals c.requires.limits
+    c.requires.sound c.requires.columns c.requires.totals c.requires.limits
 
 pub returns : goal.returns
 returns c =
