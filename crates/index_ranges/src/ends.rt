@@ -53,10 +53,11 @@ fn fits(t: &Table, column: usize, end: Bound<'_>) -> bool
 }
 
 /// The range of the positions whose cells lie between two ends.
-pub(crate) fn within(index: &Index, t: &Table, low: Bound<'_>, high: Bound<'_>) -> (usize, usize)
+pub fn within(index: &Index, t: &Table, low: Bound<'_>, high: Bound<'_>) -> (usize, usize)
     requires { IsBuilt t.now index.now.column index.now }
     ensures rows { slice_range index.now.rows result.0 result.1
         ≡ filter (lies_within t.now index.now.column low.entry high.entry) index.now.rows }
+    ensures ordered { result.0 ≤ result.1 }
     ensures in_range { result.1 ≤ length index.now.rows }
 {
     let column = usize::from(index.column());

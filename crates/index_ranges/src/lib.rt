@@ -10,6 +10,7 @@ mod ranges;
 mod test_ranges;
 mod values;
 
+pub use ends::within;
 pub use ranges::Ranges;
 pub use test_ranges::{count_in, ranges_of};
 

@@ -1,1 +1,7 @@
+pub mod EdgeTests
+pub mod IndexThere
+pub mod Joins
+pub mod KeyOrder
+pub mod KeyRanks
+pub mod PlaceRows
 pub mod Scanned

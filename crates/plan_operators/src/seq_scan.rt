@@ -1,13 +1,15 @@
 //! The sequential scan: each row of a place is tested against the predicates on it.
 //!
 //! The operands are looked up once, before the first row; a column of whole numbers is read from
-//! its packed list. The way
-//! in is `scan`.
+//! its packed list. The way in is `seq_scan`.
 ghost use Rattle.std.specs.Prelude.{◌≡◌, ◌∷◌, [], IfOk, length, map, filter};
 ghost use Rattle.row_values.specs.RowNumbers.{row_numbers};
 ghost use Rattle.statement_meaning.specs.Combinations.{kept_combinations};
 ghost use Rattle.row_tests.specs.Ready.{all_hold};
+ghost use Rattle.statement_meaning.specs.PartialCombinations.{RowsOnce};
+ghost use Rattle.plan_operators.specs.Sources.{world_read};
 
+use crate::source::{Source, table_of};
 use csv_tables::Table;
 use row_tests::{Ready, passes, ready_preds};
 use row_values::{OutOfMemory, Query, Value};
@@ -31,6 +33,24 @@ fn passing_rows(
         }
     }
     Ok(rows)
+}
+
+/// The rows of a place that meet the predicates on it.
+pub(crate) fn seq_scan(
+    alloc: Global,
+    source: &Source<'_>,
+    place: u8,
+) -> Result<Vec<u32>, OutOfMemory>
+    ensures each_once { IfOk result (λ rows. RowsOnce (world_read source.now) place rows.items) }
+{
+    match table_of(source.tables, place) {
+        Some(table) => {
+            let ready = ready_preds(alloc, source.q.preds(), table, source.args, place)?;
+            let rows = passing_rows(alloc, table, source.args, ready.as_slice())?;
+            Ok(rows)
+        }
+        None => Ok(Vec::new(alloc)),
+    }
 }
 
 /// The numbers of the rows that a statement of one place keeps, rising: its kept combinations.

@@ -11,7 +11,7 @@ use Rattle.row_tests.specs.declared.value_tests.NumberTest.{NumberTest}
 use Rattle.row_tests.specs.Ready.{is_number_in, number_holds}
 
 -- the value of a row that may not be there
-cell_of_row : (rows : List (List Value)) (row column : ℕ)
+pub cell_of_row : (rows : List (List Value)) (row column : ℕ)
     → value_in (slice_get rows row) column ≡ slice_get (get_or rows row []) column
 cell_of_row [] row column = refl
 cell_of_row (cells ∷ rows) zero column = refl
