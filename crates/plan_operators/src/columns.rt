@@ -113,7 +113,10 @@ fn cells_of<'a>(table: &'a Table, column: usize) -> ColumnCells<'a>
 
 /// A column of a place among these tables; where there is no such table it has no cells.
 pub fn column_of<'a>(tables: &'a [Rc<Table>], at: ColRef) -> PlaceColumn<'a>
-    ensures { (c : List ℕ) → cell_seen result c ≡ cell_of (rows_in (tables_in tables.now)) c at }
+    ensures place { result.place ≡ at.place }
+    ensures cells { (row : ℕ) → cell_read result.cells row
+        ≡ slice_get (row_at (rows_in (tables_in tables.now)) at.place row) at.column }
+    ensures value { (c : List ℕ) → cell_seen result c ≡ cell_of (rows_in (tables_in tables.now)) c at }
 {
     let cells = match table_of(tables, at.place) {
         Some(table) => cells_of(table, usize::from(at.column)),

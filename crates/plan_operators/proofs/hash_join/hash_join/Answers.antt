@@ -21,10 +21,10 @@ returns c =
     c.in_ok-edges.edges.items (cell_seen c.column_of-outer_column.result) (cell_seen c.in_ok-side.side.column)
     c.in_ok-combos.combos.items = record {
       first_is =
-          λ x. c.column_of-outer_column.ensures x ∙ ap (cell_of (rows_read c.args.source.now) x) c.end_of-2.ensures;
+          λ x. c.column_of-outer_column.ensures.value x ∙ ap (cell_of (rows_read c.args.source.now) x) c.end_of-2.ensures;
       second_is =
           λ x. ap (λ (column : PlaceColumn). cell_seen column x) c.in_ok-side.ensures.column
-          ∙ (c.column_of-inner_column.ensures x ∙ ap (cell_of (rows_read c.args.source.now) x) c.end_of.ensures);
+          ∙ (c.column_of-inner_column.ensures.value x ∙ ap (cell_of (rows_read c.args.source.now) x) c.end_of.ensures);
       made = rw (c.deref.ensures.value, c.deref-2.ensures.value) at c.in_ok-combos.ensures;
     } in
     let apart = apart_is c.args.outer.now.places c.args.inner.places c.requires.valid.0 in
