@@ -1,4 +1,7 @@
 pub mod Changes
+pub mod Comparing
+pub mod FirstLeast
+pub mod Fitting
 pub mod Ordering
 pub mod Steps
 pub mod Summing

@@ -1,7 +1,10 @@
 -- Plans and anchors as the model has them, through what is done to the lists.
-use Rattle.std.proofs.Common.{ℕ, zero, suc, ◌≡◌, ◌<◌, ◌+◌, Bool, true, false, cond, List, [], ◌∷◌, map, length, slice_get, slice_index_or, slice_set, Some, ap, ◌∙◌, refl, arith}
-use Rattle.std.specs.List.{filter}
+use Rattle.std.proofs.Common.{ℕ, zero, suc, ◌≡◌, ◌<◌, ◌+◌, Bool, true, false, cond, List, [], ◌∷◌, map, length, slice_get, slice_index_or, slice_set, All, Some, ap, sym, ◌∙◌, refl, subst, arith}
+use Rattle.std.specs.List.{AllByRecursion, filter}
+use Rattle.std.proofs.lemmas.List.{length-map}
+use Rattle.std.proofs.lemmas.Option.{get_or_from_slice_get, slice_get_within}
 use Rattle.cache_model.specs.Caches as model
+use Rattle.cache_model.proofs.Lists.{all_from, each_from}
 use Rattle.anchor_cache.specs.declared.anchors.Anchor.{Anchor}
 use Rattle.anchor_cache.specs.declared.kept_plans.Kept.{Kept}
 use Rattle.anchor_cache.specs.Anchors.{held}
@@ -23,6 +26,31 @@ pub held_at : (anchors : List Anchor) (place : ℕ) (d : Anchor) → place < len
 held_at [] place d less = absurd (omega arith)
 held_at (anchor ∷ anchors) zero d less = refl
 held_at (anchor ∷ anchors) (suc place) d less = held_at anchors place d (omega arith)
+
+-- what stands at a place of the program's list stands there in the model's
+pub there_at : (anchors : List Anchor) (all : List model.Anchor) (place : ℕ) (anchor : Anchor)
+    → map held anchors ≡ all → anchor ≡ slice_index_or anchors place anchor → place < length all
+    → slice_get all place ≡ Some (held anchor)
+there_at anchors all place anchor e is inside =
+    subst (λ xs. slice_get xs place ≡ Some (held anchor)) e
+    (held_at anchors place anchor (subst (λ n. place < n) (sym (ap length e) ∙ length-map anchors held) inside)
+    ∙ ap (λ (a : Anchor). Some (held a)) (sym is))
+
+pub has_there : {X : Type 0} (P : X → Type 0) (xs : List X) (i : ℕ) (x : X) → All P xs → slice_get xs i ≡ Some x → P x
+has_there P xs i x h there =
+    subst P (get_or_from_slice_get xs i x x there) (h i x (slice_get_within xs i x there))
+
+each_unmapped : {X Y : Type 0} (P : Y → Type 0) (f : X → Y) (xs : List X) → AllByRecursion P (map f xs)
+    → AllByRecursion (λ x. P (f x)) xs
+each_unmapped P f [] h = tt
+each_unmapped P f (x ∷ xs) h = (h.0, each_unmapped P f xs h.1)
+
+-- what each anchor of the model's list has, each of the program's has
+pub all_held : (P : model.Anchor → Type 0) (anchors : List Anchor) (all : List model.Anchor) → map held anchors ≡ all
+    → All P all → All (λ anchor. P (held anchor)) anchors
+all_held P anchors all e h =
+    all_from (λ anchor. P (held anchor)) anchors
+    (each_unmapped P held anchors (each_from P (map held anchors) (subst (All P) (sym e) h)))
 
 map_filter_by : {X Y : Type 0} (f : X → Y) (b : Bool) (x : X) (xs : List X) (ys : List Y) → map f xs ≡ ys
     → map f (cond b (x ∷ xs) xs) ≡ cond b (f x ∷ ys) ys

@@ -90,7 +90,8 @@ impl Cache {
 
     /// The anchors by first selectivity, the least first.
     pub fn by_first_selectivity(&self) -> &[WindowEntry]
-        ensures { IsOrdered self.now.anchors result.now }
+        ensures ordered { IsOrdered self.now.anchors result.now }
+        ensures sound { IsCache self.now.plans self.now.anchors self.now.next_plan }
     {
         self.ordered.as_slice()
     }
