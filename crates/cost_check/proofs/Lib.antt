@@ -1,0 +1,5 @@
+mod Agreeing
+mod Costing
+mod Putting
+mod Trying
+mod Walking
