@@ -1,2 +1,4 @@
+pub mod IndexCounts
 pub mod Matching
+pub mod Placed
 pub mod Selectivities

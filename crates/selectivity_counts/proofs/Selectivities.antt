@@ -1,6 +1,6 @@
 -- The selectivity vector, predicate by predicate.
-use Rattle.std.proofs.Common.{ℕ, zero, suc, ◌≡◌, ◌<◌, ◌≤◌, ◌+◌, ◌++◌, max, Bool, true, false, List, [], ◌∷◌, length}
-use Rattle.std.proofs.Common.{take, drop, set, get_or, cond, ap, ◌∙◌, sym, refl, arith, add-one, drop-cons}
+use Rattle.std.proofs.Common.{ℕ, zero, suc, ◌≡◌, ◌<◌, ◌≤◌, ◌+◌, ◌++◌, max, true, false, List, [], ◌∷◌, length}
+use Rattle.std.proofs.Common.{take, drop, set, get_or, ap, ◌∙◌, sym, refl, arith, add-one, drop-cons}
 use Rattle.std.proofs.lemmas.List.{append_assoc}
 use Rattle.row_values.specs.declared.values.Value.{Value}
 use Rattle.row_values.specs.declared.statement.Pred.{Pred}
@@ -25,19 +25,19 @@ next_left : (preds : List Pred) (k : ℕ) (pred : Pred) → pred ≡ get_or pred
 next_left preds k pred is h =
     rw add-one (drop-cons preds k pred h ∙ ap (λ (one : Pred). one ∷ drop (suc k) preds) (sym is))
 
--- the numbers so far, of a statement of one place with these predicates, of which so many are left
-pub record SoFar (rows : List (List Value)) (args : List Value) (preds : List Pred) (k known : ℕ)
+-- the numbers so far, of these predicates, of which so many are left
+pub record SoFar (tables : List (List (List Value))) (args : List Value) (preds : List Pred) (k known : ℕ)
     (numbers : List ℕ) : Type 0 where
   pub long : length numbers ≡ 8
   pub room : known + selectivity_count (drop k preds) ≤ 8
-  pub value : take known numbers ++ selectivities (rows ∷ []) args (drop k preds) ≡ selectivities (rows ∷ []) args preds
+  pub value : take known numbers ++ selectivities tables args (drop k preds) ≡ selectivities tables args preds
 
 -- a predicate that is fixed adds nothing
-pub passed_over : (rows : List (List Value)) (args : List Value) (preds : List Pred) (k known : ℕ) (numbers : List ℕ)
+pub passed_over : (tables : List (List (List Value))) (args : List Value) (preds : List Pred) (k known : ℕ) (numbers : List ℕ)
     (pred : Pred)
     → pred ≡ get_or preds k pred → k < length preds → is_parameterised pred ≡ false
-    → SoFar rows args preds k known numbers → SoFar rows args preds (k + 1) known numbers
-passed_over rows args preds k known numbers pred is h fixed s =
+    → SoFar tables args preds k known numbers → SoFar tables args preds (k + 1) known numbers
+passed_over tables args preds k known numbers pred is h fixed s =
     let left = next_left preds k pred is h in
     record {
       long = s.long;
@@ -46,31 +46,31 @@ passed_over rows args preds k known numbers pred is h fixed s =
     }
 
 -- a parameterised one adds its count
-pub counted : (rows : List (List Value)) (args : List Value) (preds : List Pred) (k known : ℕ) (numbers new : List ℕ)
+pub counted : (tables : List (List (List Value))) (args : List Value) (preds : List Pred) (k known : ℕ) (numbers new : List ℕ)
     (pred : Pred) (number : ℕ)
-    → pred ≡ get_or preds k pred → k < length preds → is_parameterised pred ≡ true → pred.at.place ≡ 0
-    → number ≡ max 1 (matching args pred rows) → length new ≡ 8
+    → pred ≡ get_or preds k pred → k < length preds → is_parameterised pred ≡ true
+    → number ≡ max 1 (matching args pred (rows_at tables pred.at.place)) → length new ≡ 8
     → take (known + 1) new ≡ take known numbers ++ number ∷ []
-    → SoFar rows args preds k known numbers → SoFar rows args preds (k + 1) (known + 1) new
-counted rows args preds k known numbers new pred number is h varies place counts long more s =
+    → SoFar tables args preds k known numbers → SoFar tables args preds (k + 1) (known + 1) new
+counted tables args preds k known numbers new pred number is h varies counts long more s =
     let left = next_left preds k pred is h in
     let room = rw (left, varies) at s.room in
-    let value = rw (left, varies, place) at s.value in
+    let value = rw (left, varies) at s.value in
     record {
       long = long;
       room = omega (arith, room);
       value =
-          ap (λ (ns : List ℕ). ns ++ selectivities (rows ∷ []) args (drop (k + 1) preds)) more
-          ∙ (append_assoc (take known numbers) (number ∷ []) (selectivities (rows ∷ []) args (drop (k + 1) preds))
+          ap (λ (ns : List ℕ). ns ++ selectivities tables args (drop (k + 1) preds)) more
+          ∙ (append_assoc (take known numbers) (number ∷ []) (selectivities tables args (drop (k + 1) preds))
           ∙ rw counts value);
     }
 
 -- there is room for the number of a predicate that is left
-pub room_left : (rows : List (List Value)) (args : List Value) (preds : List Pred) (k known : ℕ) (numbers : List ℕ)
+pub room_left : (tables : List (List (List Value))) (args : List Value) (preds : List Pred) (k known : ℕ) (numbers : List ℕ)
     (pred : Pred)
     → pred ≡ get_or preds k pred → k < length preds → is_parameterised pred ≡ true
-    → SoFar rows args preds k known numbers → known < length numbers
-room_left rows args preds k known numbers pred is h varies s =
+    → SoFar tables args preds k known numbers → known < length numbers
+room_left tables args preds k known numbers pred is h varies s =
     let left = next_left preds k pred is h in
     let room = rw (left, varies) at s.room in
     let long = s.long in

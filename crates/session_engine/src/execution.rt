@@ -19,6 +19,7 @@ use selectivity_counts::vector;
 use session_model::{RESULT_LIMIT, SELECTIVITIES_BUILT};
 use std::alloc::Global;
 use std::rc::Rc;
+use std::slice;
 
 /// Whether the statement is of the form that is executed so far.
 pub fn is_built(q: &Query) -> bool
@@ -50,11 +51,11 @@ fn describe(
     number: u64,
     name: &Words,
     q: &Query,
-    table: &Table,
+    table: &Rc<Table>,
     args: &[Value],
 ) -> Result<Execution, OutOfMemory>
     requires { executions.is_built q.now ≡ true }
-    ensures { IfOk result (λ execution. execution ≡ executions.scan_execution number name.now q.now (table.now.rows ∷ []) args.now) }
+    ensures { IfOk result (λ execution. execution ≡ executions.scan_execution number name.now q.now (table.now.value.rows ∷ []) args.now) }
 {
     let plan = scan_plan(alloc)?;
     Ok(Execution {
@@ -62,7 +63,7 @@ fn describe(
         number,
         spelled: print_plan(alloc, q, &plan)?,
         cost: scan_cost(table),
-        at: vector(q, table, args),
+        at: vector(q, slice::from_ref(table), &[], args),
     })
 }
 
@@ -84,11 +85,11 @@ pub fn execute(
     number: u64,
     name: &Words,
     q: &Query,
-    table: &Table,
+    table: &Rc<Table>,
     args: &[Value],
 ) -> Result<Option<(Execution, Lines)>, OutOfMemory>
     requires { executions.is_built q.now ≡ true }
-    ensures { IfOk result (Executed number name.now q.now (table.now.rows ∷ []) args.now) }
+    ensures { IfOk result (Executed number name.now q.now (table.now.value.rows ∷ []) args.now) }
 {
     let rows = scan(alloc, q, table, args)?;
     if rows.len() > RESULT_LIMIT {

@@ -2,7 +2,6 @@ use Rattle.std.proofs.Common.{ℕ, ◌≡◌, ◌∙◌, ◌+◌, ◌∷◌, [],
 use Rattle.std.specs.List.{slice_get}
 use Rattle.row_values.specs.Statements.{Statement}
 use Rattle.row_values.specs.declared.values.Value.{Value}
-use Rattle.csv_tables.specs.Tables.{TableValue}
 use Rattle.catalog_model.specs.Instances.{instance_of}
 use Rattle.session_model.specs.Executions.{is_built}
 use Rattle.session_model.specs.State.{State}
@@ -38,9 +37,9 @@ returns-in-None-clause-ok c =
     }) q ≡ c.in-Some.table.now.value.rows ∷ [] =
     one_table (λ t. t.value) c.self.inside.store.tables q.places c.in_ok-tables.tables.items c.in-Some.table.now
     (built q is).one (c.in_ok-tables.ensures q c.query-q.ensures.value) first in
-    let now : present_tables c.args.self.now q ≡ c.deref-2.result.now.rows ∷ [] =
+    let now : present_tables c.args.self.now q ≡ c.in-Some.table.now.value.rows ∷ [] =
     sym (ap (λ (s : State). present_tables s q) c.self.view_is)
-    ∙ (here ∙ ap (λ (t : TableValue). t.rows ∷ []) (sym c.deref-2.ensures)) in
+    ∙ here in
     let ran = subst (λ (tables : List (List (List Value))). Executed
     (c.self.inside.executions + 1) c.args.name.now q tables c.args.args.now c.in_ok-execute.field-0)
     (sym now) c.in_ok-execute.ensures in
@@ -68,9 +67,9 @@ returns-clause-ok c =
     }) q ≡ c.in-Some.table.now.value.rows ∷ [] =
     one_table (λ t. t.value) c.self.inside.store.tables q.places c.in_ok-tables.tables.items c.in-Some.table.now
     (built q is).one (c.in_ok-tables.ensures q c.query-q.ensures.value) first in
-    let now : present_tables c.args.self.now q ≡ c.deref-2.result.now.rows ∷ [] =
+    let now : present_tables c.args.self.now q ≡ c.in-Some.table.now.value.rows ∷ [] =
     sym (ap (λ (s : State). present_tables s q) c.self.view_is)
-    ∙ (here ∙ ap (λ (t : TableValue). t.rows ∷ []) (sym c.deref-2.ensures)) in
+    ∙ here in
     let number : c.self.inside.executions + 1 ≡ c.args.self.now.executions + 1 =
     ap (λ (s : State). s.executions + 1) c.self.view_is in
     let over = subst (λ (tables : List (List (List Value))). Executed
