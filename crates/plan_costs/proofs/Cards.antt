@@ -22,7 +22,8 @@ pub record AreParts (q : Statement) (s : Statistics) (vector : List ℕ) (set : 
   pub selected_few : marked_product (map (has set) (selectivity_places q.preds)) vector ≤ 2 ^ 63
   pub card_few : card_of q s vector set < 2 ^ 124
 
-pub are_parts : (q : Statement) (s : Statistics) (vector : List ℕ) (set : ℕ) → IsSoundQuery q → IsSoundStats q s → IsSoundVector q s vector → AreParts q s vector set
+pub are_parts : (q : Statement) (s : Statistics) (vector : List ℕ) (set : ℕ) → IsSoundQuery q → IsSoundStats q s
+    → IsSoundVector q s vector → AreParts q s vector set
 are_parts q s vector set h k v =
     let sized = are_sized q s vector h k v in
     let counts = k.fixed_counts in
@@ -37,15 +38,20 @@ are_parts q s vector set h k v =
       card_few = card_below_limit q s vector set sized;
     }
 
-pub kappa_made : (q : Statement) (s : Statistics) (vector : List ℕ) (set start over left : ℕ) → AreParts q s vector set → start ≡ COST_SCALE * product_over set 0 s.fixed
-    → over ≡ div_ceil start (rows_divisor set s.rows q.preds) → left ≡ div_ceil over (marked_product (map (is_inside set) q.edges) s.distinct) → left ≡ kappa q s set
+pub kappa_made : (q : Statement) (s : Statistics) (vector : List ℕ) (set start over left : ℕ) → AreParts q s vector set
+    → start ≡ COST_SCALE * product_over set 0 s.fixed
+    → over ≡ div_ceil start (rows_divisor set s.rows q.preds)
+    → left ≡ div_ceil over (marked_product (map (is_inside set) q.edges) s.distinct) → left ≡ kappa q s set
 unfolding kappa
 kappa_made q s vector set start over left parts a b c =
-    let once = quotient_twice (COST_SCALE * product_over set 0 s.fixed) (rows_divisor set s.rows q.preds) (marked_product (map (is_inside set) q.edges) s.distinct)
-    (divisor_some set s.rows q.preds parts.rows parts.there) (marked_some (map (is_inside set) q.edges) s.distinct parts.distinct) in
+    let once = quotient_twice (COST_SCALE * product_over set 0 s.fixed) (rows_divisor set s.rows q.preds)
+    (marked_product (map (is_inside set) q.edges) s.distinct)
+    (divisor_some set s.rows q.preds parts.rows parts.there)
+    (marked_some (map (is_inside set) q.edges) s.distinct parts.distinct) in
     rw (c, b, a, once) refl
 
 pub card_made : (q : Statement) (s : Statistics) (vector : List ℕ) (set constant product : ℕ) → constant ≡ kappa q s set
-    → product ≡ marked_product (map (has set) (selectivity_places q.preds)) vector → constant * product ≡ card_of q s vector set
+    → product ≡ marked_product (map (has set) (selectivity_places q.preds)) vector
+    → constant * product ≡ card_of q s vector set
 unfolding card_of
 card_made q s vector set constant product a b = rw (a, b) refl

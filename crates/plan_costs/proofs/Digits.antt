@@ -15,11 +15,13 @@ one_more_by n d m some e = grind (arith, nat_tests)
 digits_between : (k m n : ℕ) → m ≤ k → n < 2 ^ m → 2 ^ m ≤ 2 * n + 1 → digits_within k n ≡ m
 unfolding digits_within
 digits_between zero m n few high low = omega arith
-digits_between (suc k) zero n few high low = let one = pow-zero 2 in none_of_zero n (digits_within k (n / 2)) (omega arith)
+digits_between (suc k) zero n few high low = let one = pow-zero 2 in
+    none_of_zero n (digits_within k (n / 2)) (omega arith)
 digits_between (suc k) (suc m) n few high low =
     let twice = pow-suc 2 m in
     let some : 1 ≤ n = omega arith in
-    one_more_by n (digits_within k (n / 2)) m some (digits_between k m (n / 2) (omega arith) (omega arith) (omega arith))
+    one_more_by n (digits_within k (n / 2)) m some
+    (digits_between k m (n / 2) (omega arith) (omega arith) (omega arith))
 
 -- what is left of 64 bits without the zeros at the top
 pub digits_below_zeros : (n : ℕ) → n < 2 ^ 64 → 64 - count_leading_zeros 64 n ≡ digits n

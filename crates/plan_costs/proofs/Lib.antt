@@ -4,6 +4,9 @@ pub mod Factors
 pub mod FormulaParts
 pub mod FormulaShapes
 pub mod FormulaValues
+pub mod Least
+pub mod Listed
 pub mod Ones
 pub mod Quotients
 pub mod StepParts
+pub mod Wholes

@@ -1,5 +1,6 @@
 -- Quotients rounded up, one factor after the other.
-use Rattle.std.proofs.Common.{ℕ, ◌≡◌, ◌≤◌, ◌<◌, ◌+◌, ◌*◌, ◌⊎◌, inl, inr, arith, mul_assoc, mul_comm, mul-le-mul, mul-le-mul_right, add-mul, le_antisymm}
+use Rattle.std.proofs.Common.{ℕ, ◌≡◌, ◌≤◌, ◌<◌, ◌+◌, ◌*◌, ◌⊎◌, inl, inr, arith, mul_assoc, mul_comm, mul-le-mul}
+use Rattle.std.proofs.Common.{mul-le-mul_right, add-mul, le_antisymm}
 use Rattle.std.specs.Int.{div_ceil}
 use Rattle.std.proofs.lemmas.Bool.{cases_lt}
 use Rattle.std.proofs.lemmas.Grind.{div_ceil_times}
@@ -25,10 +26,13 @@ quotient_twice a b c x y =
     let e = order (div_ceil a (b * c)) b c in
     let f = order (div_ceil (div_ceil a b) c) b c in
     let k = (div_ceil_times a b x).0 in
-    let l : div_ceil a b * b ≤ div_ceil (div_ceil a b) c * c * b = mul-le-mul_right b (div_ceil_times (div_ceil a b) c y).0 in
+    let l : div_ceil a b * b ≤ div_ceil (div_ceil a b) c * c * b =
+    mul-le-mul_right b (div_ceil_times (div_ceil a b) c y).0 in
     le_antisymm
-    (least_quotient (div_ceil a b) c (div_ceil a (b * c)) y (least_quotient a b (div_ceil a (b * c) * c) x (omega arith)))
+    (least_quotient (div_ceil a b) c (div_ceil a (b * c)) y
+    (least_quotient a b (div_ceil a (b * c) * c) x (omega arith)))
     (least_quotient a (b * c) (div_ceil (div_ceil a b) c) bc (omega arith))
 
 pub quotient_one : (a : ℕ) → div_ceil a 1 ≡ a
-quotient_one a = let h = div_ceil_times a 1 (omega arith) in le_antisymm (least_quotient a 1 a (omega arith) (omega arith)) (omega (arith, h.0))
+quotient_one a = let h = div_ceil_times a 1 (omega arith) in
+    le_antisymm (least_quotient a 1 a (omega arith) (omega arith)) (omega (arith, h.0))

@@ -1,5 +1,6 @@
 -- What the best plan of an instance is, and the table of a list of cells.
-use Rattle.std.specs.Prelude.{ℕ, zero, suc, ◌≡◌, ◌+◌, ◌^◌, Bool, true, false, List, length, Option, Some, None, slice_get, option_and_then}
+use Rattle.std.specs.Prelude.{ℕ, zero, suc, ◌≡◌, ◌+◌, ◌^◌, Bool, true, false, List, length, Option, Some, None}
+use Rattle.std.specs.Prelude.{slice_get, option_and_then}
 use Rattle.row_values.specs.Statements.{Statement}
 use Rattle.plan_trees.specs.PlanSpace.{IsValidTop}
 use Rattle.plan_trees.specs.Statistics.{Statistics}

@@ -1,7 +1,8 @@
 -- What plans cost as formulas of the selectivities: a formula for each equation of the cost model.
 --
 -- A selectivity stands where the equation reads the vector, and a constant where it reads statistics alone.
-use Rattle.std.specs.Prelude.{ℕ, ◌≡◌, ◌<◌, ◌+◌, ◌*◌, true, false, if◌then◌else◌, List, [], ◌∷◌, take, slice_get, slice_index}
+use Rattle.std.specs.Prelude.{ℕ, ◌≡◌, ◌<◌, ◌+◌, ◌*◌, true, false, if◌then◌else◌, List, [], ◌∷◌, take, slice_get}
+use Rattle.std.specs.Prelude.{slice_index}
 use Rattle.std.specs.Option.{option_map_or}
 use Rattle.row_values.specs.Statements.{Statement, is_parameterised, selectivity_count}
 use Rattle.plan_trees.specs.declared.plans.Access.{Access}
@@ -10,7 +11,8 @@ use Rattle.plan_trees.specs.declared.plans.StepKind.{StepKind}
 use Rattle.plan_trees.specs.declared.plans.StepKind.TheVariants.{Loop, Probe}
 use Rattle.plan_trees.specs.PlaceSets.{has, one}
 use Rattle.plan_trees.specs.Statistics.{Statistics, selectivity_places}
-use Rattle.plan_trees.specs.Trees.{Tree, Base, Join, HashJoin, Sort, TopTree, Rows, SortedGroups, HashGroups, place_entering, places_of}
+use Rattle.plan_trees.specs.Trees.{Tree, Base, Join, HashJoin, Sort, TopTree, Rows, SortedGroups, HashGroups}
+use Rattle.plan_trees.specs.Trees.{place_entering, places_of}
 use Rattle.growth_checker.specs.Expression.{Formula, Constant, Selectivity, Plus, Times, mentions, IsSound, IsUnshared}
 use Rattle.cost_model.specs.Cardinalities.{kappa, product_over}
 use Rattle.cost_model.specs.Costs.{digits, look_up_cost, edge_fan}
@@ -19,7 +21,8 @@ use Rattle.plan_trees.specs.declared.scale.TheConstants.{COST_SCALE}
 -- the formula times the selectivities of the set's places; the list has the place of each from this one on
 abbrev pub selected : ℕ → ℕ → Formula → List ℕ → Formula
 selected set next f [] = f
-selected set next f (place ∷ places) = selected set (next + 1) (if has set place then Times f (Selectivity next) else f) places
+selected set next f (place ∷ places) = selected set (next + 1)
+    (if has set place then Times f (Selectivity next) else f) places
 
 abbrev pub card_formula : Statement → Statistics → ℕ → Formula
 card_formula q s set = selected set 0 (Constant (kappa q s set)) (selectivity_places q.preds)
@@ -28,7 +31,8 @@ card_formula q s set = selected set 0 (Constant (kappa q s set)) (selectivity_pl
 
 -- a descent, and each row that a parameterised predicate finds
 abbrev pub found_formula : Statistics → ℕ → ℕ → Formula
-found_formula s place next = Plus (Constant (look_up_cost s place 0)) (Times (Constant s.weights.fetch) (Selectivity next))
+found_formula s place next = Plus (Constant (look_up_cost s place 0))
+    (Times (Constant s.weights.fetch) (Selectivity next))
 
 abbrev pub range_formula : Statement → Statistics → ℕ → ℕ → Formula
 range_formula q s place pred =
@@ -57,7 +61,8 @@ step_formula q s set step =
 
 abbrev pub join_formula : Statement → Statistics → ℕ → ℕ → Formula
 join_formula q s left right =
-    Plus (Times (Constant s.weights.hash) (Plus (card_formula q s left) (card_formula q s right))) (out_formula q s (left + right))
+    Plus (Times (Constant s.weights.hash) (Plus (card_formula q s left) (card_formula q s right)))
+    (out_formula q s (left + right))
 
 abbrev pub sort_formula : Statement → Statistics → ℕ → Formula
 sort_formula q s set = Times (Constant (s.weights.sort * digits (product_over set 0 s.rows))) (card_formula q s set)
@@ -72,7 +77,8 @@ plan_formula q s (HashJoin outer inner edge) =
 plan_formula q s (Sort outer) = Plus (plan_formula q s outer) (sort_formula q s (places_of outer))
 
 abbrev pub grouped_formula : Statement → Statistics → ℕ → Tree → Formula
-grouped_formula q s weight plan = Plus (plan_formula q s plan) (Times (Constant weight) (card_formula q s (places_of plan)))
+grouped_formula q s weight plan = Plus (plan_formula q s plan)
+    (Times (Constant weight) (card_formula q s (places_of plan)))
 
 abbrev pub top_formula : Statement → Statistics → TopTree → Formula
 top_formula q s (Rows plan) = plan_formula q s plan

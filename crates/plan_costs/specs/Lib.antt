@@ -1,5 +1,6 @@
 pub mod BestPlans
 pub mod Cards
 pub mod Formulas
+pub mod Least
 pub mod LowerBounds
 pub mod Units

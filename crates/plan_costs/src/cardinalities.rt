@@ -1,7 +1,7 @@
 //! Cardinalities of sets of places.
 //!
-//! The divisor of a cardinality can pass 128 bits, so its factors divide one after the other, each rounding up: that
-//! is as if their product divided at once.
+//! The divisor of a cardinality can pass 128 bits: the rows multiplied fit 64 bits and divide at once, then each
+//! distinct count divides, each time rounding up. That is as if the product of all divided once.
 ghost use Rattle.std.specs.Prelude.{ℕ, ◌≡◌, ◌==◌, ◌&&◌, if◌then◌else◌, not, ◌<◌, ◌≤◌, ◌^◌, All, IfOk, length, map, slice_index};
 ghost use Rattle.std.specs.Int.{div_ceil};
 ghost use Rattle.row_values.specs.Statements.{is_parameterised, selectivity_count};
@@ -64,19 +64,20 @@ fn divided(number: u128, factor: u64) -> u128
     number.div_ceil(u128::from(factor))
 }
 
-/// The number divided by the rows of each parameterised predicate's place in the set, rounded up.
-fn by_selected_rows(number: u128, preds: &[Pred], stats: &Stats, set: u8) -> u128
+/// The rows of each parameterised predicate's place in the set, multiplied.
+fn rows_product(preds: &[Pred], stats: &Stats, set: u8) -> u64
     requires there { All (λ pred. pred.at.place < length stats.now.rows) preds.now }
     requires some { (k : ℕ) → k < length stats.now.rows → 1 ≤ slice_index stats.now.rows k }
-    ensures { result ≡ div_ceil number (marked_product (map (has set) (selectivity_places preds.now))
-        (map (slice_index stats.now.rows) (selectivity_places preds.now))) }
+    requires small { marked_product (map (has set) (selectivity_places preds.now))
+        (map (slice_index stats.now.rows) (selectivity_places preds.now)) ≤ 2 ^ 63 }
+    ensures { result ≡ marked_product (map (has set) (selectivity_places preds.now))
+        (map (slice_index stats.now.rows) (selectivity_places preds.now)) }
 {
-    let mut left = number;
+    let mut product = 1;
     for pred in preds {
-        let factor = rows_factor(stats, set, pred);
-        left = divided(left, factor);
+        product *= rows_factor(stats, set, pred);
     }
-    left
+    product
 }
 
 /// The distinct count of the edge of this number, if its places are in the set; else 1.
@@ -138,7 +139,7 @@ pub(crate) fn constant_part(q: &Query, stats: &Stats, set: u8) -> u128
 {
     let fixed = fixed_product(stats, q.places().len() as u8, set);
     let start = COST_SCALE * u128::from(fixed);
-    let over_rows = by_selected_rows(start, q.preds(), stats, set);
+    let over_rows = divided(start, rows_product(q.preds(), stats, set));
     by_distinct(over_rows, q.edges(), stats, set)
 }
 

@@ -356,8 +356,7 @@ pub fn expr_of(alloc: Global, q: &Query, stats: &Stats, p: &Top) -> Result<Expr,
         → value_at (formula e) s ≡ top_cost q.now stats.now s (top_tree p.now)) }
     ensures sound { IfOk result (λ e. IsCostFormula (selectivity_count q.now.preds) (formula e)) }
 {
-    // That every statement is sound, its readers pass on: so it is read here once.
-    let _ = q.places();
+    q.sound();
     let cost = top_expr(alloc, q, stats, p)?;
     Ok(cost)
 }

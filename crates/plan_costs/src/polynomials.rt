@@ -26,8 +26,7 @@ pub fn poly_of(alloc: Global, q: &Query, stats: &Stats, p: &Top) -> Result<Poly,
     ensures vectors { IfOk result (λ poly. (s : List ℕ) → IsVectorOf q.now s → All (λ count. 1 ≤ count) s
         → IsVectorFor poly s) }
 {
-    // That every statement is sound, its readers pass on: so it is read here once.
-    let _ = q.places();
+    q.sound();
     let cost = expr_of(alloc, q, stats, p)?;
     match shape(alloc, &cost) {
         Ok(poly) => Ok(poly),

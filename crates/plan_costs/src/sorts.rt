@@ -67,8 +67,7 @@ pub fn sort_cost(q: &Query, stats: &Stats, set: u8, s: &[u64]) -> u128
     requires there { set < 2 ^ length q.now.places }
     ensures value { result ≡ costs.sort_cost q.now stats.now s.now set }
 {
-    // That every statement is sound, its readers pass on: so it is read here once.
-    let _ = q.places();
+    q.sound();
     sort_cost_of(q, stats, set, card(q, stats, set, s))
 }
 
@@ -80,7 +79,6 @@ pub fn sort_cost_with(q: &Query, stats: &Stats, cards: &[u128], set: u8, s: &[u6
     requires there { set < 2 ^ length q.now.places }
     ensures value { result ≡ costs.sort_cost q.now stats.now s.now set }
 {
-    // That every statement is sound, its readers pass on: so it is read here once.
-    let _ = q.places();
+    q.sound();
     sort_cost_of(q, stats, set, card_at(cards, set))
 }

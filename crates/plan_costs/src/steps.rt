@@ -38,8 +38,7 @@ pub(crate) fn step_unit(q: &Query, stats: &Stats, step: StepKind, s: &[u64]) -> 
     requires valid { (set : ℕ) × IsValidStep q.now stats.now.indexed set step }
     ensures value { result ≡ unit_of_step q.now stats.now s.now step }
 {
-    // That every statement is sound, its readers pass on: so it is read here once.
-    let _ = q.places();
+    q.sound();
     match step {
         StepKind::Loop(access) => access_unit(q, stats, &access, s),
         StepKind::Probe(place, edge) => look_up_cost(stats, place, edge_fan(q, stats, place, edge)),
@@ -62,8 +61,7 @@ pub fn step_cost(q: &Query, stats: &Stats, set: u8, step: &StepKind, s: &[u64]) 
     requires valid { IsValidStep q.now stats.now.indexed set step.now }
     ensures value { result ≡ costs.step_cost q.now stats.now s.now set step.now }
 {
-    // That every statement is sound, its readers pass on: so it is read here once.
-    let _ = q.places();
+    q.sound();
     let unit = step_unit(q, stats, *step, s);
     let before = card(q, stats, set, s);
     let after = card(q, stats, with_place(set, step_place(*step)), s);
@@ -86,8 +84,7 @@ pub fn step_cost_with(
     requires valid { IsValidStep q.now stats.now.indexed set step }
     ensures value { result ≡ costs.step_cost q.now stats.now s.now set step }
 {
-    // That every statement is sound, its readers pass on: so it is read here once.
-    let _ = q.places();
+    q.sound();
     let unit = step_unit(q, stats, step, s);
     let before = card_at(cards, set);
     let after = card_at(cards, with_place(set, step_place(step)));
@@ -114,8 +111,7 @@ pub fn join_cost(q: &Query, stats: &Stats, left: u8, right: u8, s: &[u64]) -> u1
     requires apart { IsTrue (are_apart left right) }
     ensures value { result ≡ costs.join_cost q.now stats.now s.now left right }
 {
-    // That every statement is sound, its readers pass on: so it is read here once.
-    let _ = q.places();
+    q.sound();
     let after = card(q, stats, with_places(left, right), s);
     join_cost_of(
         stats,
@@ -142,8 +138,7 @@ pub fn join_cost_with(
     requires apart { IsTrue (are_apart left right) }
     ensures value { result ≡ costs.join_cost q.now stats.now s.now left right }
 {
-    // That every statement is sound, its readers pass on: so it is read here once.
-    let _ = q.places();
+    q.sound();
     let after = card_at(cards, with_places(left, right));
     join_cost_of(stats, card_at(cards, left), card_at(cards, right), after)
 }

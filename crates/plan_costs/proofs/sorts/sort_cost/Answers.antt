@@ -6,11 +6,13 @@ use Rattle.plan_costs.proofs.sorts.sort_cost.Goals as goal
 
 pub sort_cost_of-requires-clause-fits : goal.sort_cost_of-requires-clause-fits
 sort_cost_of-requires-clause-fits c =
-    sort_parts_fit c.args.q.now c.args.stats.now c.args.s.now c.args.set _ c.places.ensures.sound c.requires.sound c.requires.vector c.card.ensures.value
+    sort_parts_fit c.args.q.now c.args.stats.now c.args.s.now c.args.set _ c.sound.ensures.value c.requires.sound
+    c.requires.vector c.card.ensures.value
 
 pub returns : goal.returns
 returns c =
     record {
       value = c.sort_cost_of.ensures.value
-          ∙ ap (λ n. c.args.stats.now.weights.sort * digits (product_over c.args.set 0 c.args.stats.now.rows) * n) c.card.ensures.value;
+          ∙ ap (λ n. c.args.stats.now.weights.sort * digits (product_over c.args.set 0 c.args.stats.now.rows) * n)
+          c.card.ensures.value;
     }

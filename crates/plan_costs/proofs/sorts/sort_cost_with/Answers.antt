@@ -9,13 +9,16 @@ card_at-requires c = card_there _ _ _ _ _ c.requires.cards c.requires.there
 
 pub sort_cost_of-requires-clause-fits : goal.sort_cost_of-requires-clause-fits
 sort_cost_of-requires-clause-fits c =
-    sort_parts_fit c.args.q.now c.args.stats.now c.args.s.now c.args.set _ c.places.ensures.sound c.requires.sound c.requires.vector
-    (card_read c.args.q.now c.args.stats.now c.args.s.now c.args.cards.now c.args.set c.args.set _ c.requires.cards c.requires.there (cc) c.card_at.ensures)
+    sort_parts_fit c.args.q.now c.args.stats.now c.args.s.now c.args.set _ c.sound.ensures.value c.requires.sound
+    c.requires.vector
+    (card_read c.args.q.now c.args.stats.now c.args.s.now c.args.cards.now c.args.set c.args.set _ c.requires.cards
+    c.requires.there (cc) c.card_at.ensures)
 
 pub returns : goal.returns
 returns c =
     record {
       value = c.sort_cost_of.ensures.value
           ∙ ap (λ n. c.args.stats.now.weights.sort * digits (product_over c.args.set 0 c.args.stats.now.rows) * n)
-          (card_read c.args.q.now c.args.stats.now c.args.s.now c.args.cards.now c.args.set c.args.set _ c.requires.cards c.requires.there (cc) c.card_at.ensures);
+          (card_read c.args.q.now c.args.stats.now c.args.s.now c.args.cards.now c.args.set c.args.set _
+          c.requires.cards c.requires.there (cc) c.card_at.ensures);
     }

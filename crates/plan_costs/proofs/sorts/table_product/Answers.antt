@@ -5,5 +5,6 @@ use Rattle.plan_costs.proofs.sorts.table_product.Goals as goal
 pub overflow_mul-product : goal.overflow_mul-product
 overflow_mul-product c =
     let small = c.requires.small in
-    let h = product_fits c.args.set c.loop-place.place c.loop-place.product c.table_factor-product.result _ c.args.stats.now.rows (omega arith) c.requires.some c.table_factor-product.ensures c.loop-place.invariant in
+    let h = product_fits c.args.set c.loop-place.place c.loop-place.product c.table_factor-product.result _
+    c.args.stats.now.rows (omega arith) c.requires.some c.table_factor-product.ensures c.loop-place.invariant in
     omega arith

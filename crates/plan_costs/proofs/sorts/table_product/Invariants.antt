@@ -4,4 +4,5 @@ use Rattle.plan_costs.proofs.sorts.table_product.Given as goal
 
 -- the places that are left multiply to the rest
 abbrev pub invariant-loop-place : goal.invariant-loop-place
-invariant-loop-place l = l.product * product_over l.set l.place (drop l.place l.stats.rows) ≡ product_over l.set 0 l.stats.rows
+invariant-loop-place l = l.product * product_over l.set l.place
+    (drop l.place l.stats.rows) ≡ product_over l.set 0 l.stats.rows

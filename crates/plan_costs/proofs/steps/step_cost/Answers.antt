@@ -12,18 +12,19 @@ pub step_unit-unit-requires-clause-valid : goal.step_unit-unit-requires-clause-v
 step_unit-unit-requires-clause-valid c = (c.args.set, c.requires.valid)
 
 pub with_place-requires-clause-small : goal.with_place-requires-clause-small
-with_place-requires-clause-small c = small_set c.args.q.now c.args.set c.places.ensures.sound c.requires.there
+with_place-requires-clause-small c = small_set c.args.q.now c.args.set c.sound.ensures.value c.requires.there
 
 pub with_place-requires-clause-in_range : goal.with_place-requires-clause-in_range
 with_place-requires-clause-in_range c =
     let less = step_in_range c.args.q.now c.args.stats.now.indexed c.args.set c.args.step.now c.requires.valid in
-    let few = c.places.ensures.sound.few_places in
+    let few = c.sound.ensures.value.few_places in
     let same = c.step_place.ensures in
     omega arith
 
 pub with_place-requires-clause-absent : goal.with_place-requires-clause-absent
 with_place-requires-clause-absent c =
-    rw c.step_place.ensures (entering_new c.args.q.now c.args.stats.now.indexed c.args.set c.args.step.now c.requires.valid)
+    rw c.step_place.ensures
+    (entering_new c.args.q.now c.args.stats.now.indexed c.args.set c.args.step.now c.requires.valid)
 
 pub card-after-requires-clause-there : goal.card-after-requires-clause-there
 card-after-requires-clause-there c =
@@ -34,16 +35,20 @@ card-after-requires-clause-there c =
 
 pub step_cost_of-requires : goal.step_cost_of-requires
 step_cost_of-requires c =
-    let after = c.card-after.ensures.value ∙ ap (card_of c.args.q.now c.args.stats.now c.args.s.now) (c.with_place.ensures.value ∙ ap (λ p. c.args.set + one p) c.step_place.ensures) in
+    let after = c.card-after.ensures.value ∙ ap (card_of c.args.q.now c.args.stats.now c.args.s.now)
+    (c.with_place.ensures.value ∙ ap (λ p. c.args.set + one p) c.step_place.ensures) in
     record {
-      fits = step_parts_fit c.args.q.now c.args.stats.now c.args.s.now c.args.set c.args.step.now _ _ _ c.places.ensures.sound c.requires.sound c.requires.vector c.requires.valid
+      fits = step_parts_fit c.args.q.now c.args.stats.now c.args.s.now c.args.set c.args.step.now _ _ _
+          c.sound.ensures.value c.requires.sound c.requires.vector c.requires.valid
           c.step_unit-unit.ensures.value c.card-before.ensures.value after;
     }
 
 pub returns : goal.returns
 returns c =
-    let after = c.card-after.ensures.value ∙ ap (card_of c.args.q.now c.args.stats.now c.args.s.now) (c.with_place.ensures.value ∙ ap (λ p. c.args.set + one p) c.step_place.ensures) in
+    let after = c.card-after.ensures.value ∙ ap (card_of c.args.q.now c.args.stats.now c.args.s.now)
+    (c.with_place.ensures.value ∙ ap (λ p. c.args.set + one p) c.step_place.ensures) in
     record {
       value = c.step_cost_of.ensures.value
-          ∙ step_by_parts c.args.q.now c.args.stats.now c.args.s.now c.args.set c.args.step.now _ _ _ c.step_unit-unit.ensures.value c.card-before.ensures.value after;
+          ∙ step_by_parts c.args.q.now c.args.stats.now c.args.s.now c.args.set c.args.step.now _ _ _
+          c.step_unit-unit.ensures.value c.card-before.ensures.value after;
     }

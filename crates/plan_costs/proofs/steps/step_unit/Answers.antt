@@ -3,5 +3,6 @@ use Rattle.plan_costs.proofs.steps.step_unit.Goals as goal
 
 pub edge_fan-requires-clause-column : goal.edge_fan-requires-clause-column
 edge_fan-requires-clause-column c =
-    fan_column c.args.q.now c.args.stats.now c.requires.valid.0 c.in-Probe.place c.in-Probe.edge c.places.ensures.sound c.requires.sound
+    fan_column c.args.q.now c.args.stats.now c.requires.valid.0 c.in-Probe.place c.in-Probe.edge c.sound.ensures.value
+    c.requires.sound
     (rw c.in-Probe.is at c.requires.valid.1)

@@ -6,4 +6,5 @@ one_some n h zero d less = h
 one_some n h (suc k) d less = absurd (omega arith)
 
 pub eval-requires : goal.eval-requires
-eval-requires c = c.requires (c.args.rows ∷ []) (c.takes.ensures (search rules)).one_each (one_some c.args.rows (omega arith))
+eval-requires c = c.requires (c.args.rows ∷ []) (c.takes.ensures (search rules)).one_each
+    (one_some c.args.rows (omega arith))
