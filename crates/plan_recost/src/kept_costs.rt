@@ -34,8 +34,7 @@ impl Costed {
         ensures fits { IfOk result (λ costed. (s : List ℕ) → IsSoundVector q.now stats.now s
             → IsVectorFor costed.poly s × IsCost (value_of costed.poly s)) }
     {
-        // That every statement is sound, its readers pass on: so it is read here once.
-        let _ = q.places();
+        q.sound();
         let poly = poly_of(alloc, q, stats, &plan)?;
         Ok(Costed { plan, poly })
     }
