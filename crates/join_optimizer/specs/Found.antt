@@ -1,5 +1,6 @@
 -- What the search has found: plans with their costs, and the cheaper of two.
-use Rattle.std.specs.Prelude.{ℕ, ◌≡◌, ◌+◌, nat_lt, Bool, true, false, List, slice_index_or, Option, Some, None, IfSome, if◌then◌else◌}
+use Rattle.std.specs.Prelude.{ℕ, ◌≡◌, ◌+◌, nat_lt, Bool, true, false, List, slice_index_or, Option, Some, None, IfSome}
+use Rattle.std.specs.Prelude.{if◌then◌else◌}
 use Rattle.row_values.specs.Statements.{Statement}
 use Rattle.plan_trees.specs.declared.plans.Access.{Access}
 use Rattle.plan_trees.specs.declared.plans.StepKind.{StepKind}
@@ -70,10 +71,12 @@ stepped step cost (Some outer) = priced (Join outer.plan step) (outer.cost + cos
 abbrev pub joined : ℕ → ℕ → Option Priced → Option Priced → Option Priced
 joined edge cost None inner = None
 joined edge cost (Some outer) None = None
-joined edge cost (Some outer) (Some inner) = priced (HashJoin outer.plan inner.plan edge) (outer.cost + inner.cost + cost)
+joined edge cost (Some outer) (Some inner) = priced (HashJoin outer.plan inner.plan edge)
+    (outer.cost + inner.cost + cost)
 
 -- a valid plan of exactly these places, in the wanted order at `true`, and what it costs
-pub record IsFound (q : Statement) (s : Statistics) (vector : List ℕ) (sorted : Bool) (set : ℕ) (found : Priced) : Type 0 where
+pub record IsFound (q : Statement) (s : Statistics) (vector : List ℕ) (sorted : Bool) (set : ℕ)
+    (found : Priced) : Type 0 where
   pub fits : IsPlanOf q s sorted set found.plan
   pub costs : plan_cost q s vector found.plan ≡ found.cost
 

@@ -42,6 +42,7 @@ pub record IsTopOf (q : Statement) (s : Statistics) (vector : List ℕ) (finishe
   pub costs : top_cost q s vector finished.top ≡ finished.cost
 
 -- and no top over the cheapest plans of all places costs less
-pub record IsCheapestTop (q : Statement) (s : Statistics) (vector : List ℕ) (whole : Cheapest) (finished : PricedTop) : Type 0 where
+pub record IsCheapestTop (q : Statement) (s : Statistics) (vector : List ℕ) (whole : Cheapest)
+    (finished : PricedTop) : Type 0 where
   pub stands : IsTopOf q s vector finished
   pub fits : FitsTable q s vector (λ sorted set. cost_in whole sorted) finished.cost

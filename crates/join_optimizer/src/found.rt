@@ -36,7 +36,11 @@ fn improves(best: &Option<Found>, cost: u128) -> bool
 }
 
 /// The plan with one more step over it.
-fn stepped(alloc: Global, plan: &Rc<Plan>, step: StepKind) -> Result<Rc<Plan>, OutOfMemory>
+pub(crate) fn stepped(
+    alloc: Global,
+    plan: &Rc<Plan>,
+    step: StepKind,
+) -> Result<Rc<Plan>, OutOfMemory>
     ensures { IfOk result (λ above. tree above.value ≡ Join (tree plan.now.value) step) }
 {
     let outer = plan.clone()?;

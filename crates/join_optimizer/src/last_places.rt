@@ -1,17 +1,18 @@
 //! Plans of a set by the place that comes last: an access of a single place, or a step over a plan of the others.
-ghost use Rattle.std.specs.Prelude.{◌≡◌, ◌<◌, ◌+◌, ◌^◌, IfOk, length, slice_index_or};
+ghost use Rattle.std.specs.Prelude.{◌≡◌, ◌<◌, ◌+◌, ◌^◌, IfOk, false, length, slice_index_or};
 ghost use Rattle.row_values.specs.Statements.{IsSoundQuery};
 ghost use Rattle.plan_trees.specs.Lists.{IsAccessOf, IsStepInto};
-ghost use Rattle.plan_trees.specs.PlaceSets.{one};
+ghost use Rattle.plan_trees.specs.PlaceSets.{has, one};
 ghost use Rattle.plan_trees.specs.Statistics.{IsSoundStats, IsSoundVector};
 ghost use Rattle.plan_costs.specs.Cards.{AreCards};
 ghost use Rattle.join_optimizer.specs.Found.{AreFound, cost_in, nothing, plan_in, table_of};
 ghost use Rattle.cost_model.specs.LeastCost.{TakesPlace};
+ghost use Rattle.plan_costs.specs.Least.{AreLeastAccesses, IsLeastAccess};
 ghost use Rattle.join_optimizer.specs.Search.{AreCheapest, Offered, TakesAccess, TakesAll, TakesBetween, TakesStep};
 
 use crate::found::{Cheapest, take_access, take_sorted_access, take_step};
-use plan_costs::{access_unit, step_cost_with};
-use plan_trees::{Access, COST_SCALE, Stats, StepKind, accesses, has_place, one_place, steps};
+use plan_costs::{PricedAccess, access_unit, least_step, step_cost_with};
+use plan_trees::{Access, COST_SCALE, Stats, StepKind, accesses, has_place, one_place};
 use row_values::{OutOfMemory, Query};
 use std::alloc::Global;
 
@@ -112,6 +113,7 @@ fn by_steps(
     outer: &Cheapest,
     from: u8,
     place: u8,
+    least: PricedAccess,
     first: Cheapest,
 ) -> Result<Cheapest, OutOfMemory>
     requires query { IsSoundQuery q.now }
@@ -119,17 +121,16 @@ fn by_steps(
     requires vector { IsSoundVector q.now stats.now s.now }
     requires cards { AreCards q.now stats.now s.now cards.now }
     requires there { from < 2 ^ length q.now.places }
+    requires absent { has from place ≡ false }
+    requires least { IsLeastAccess q.now stats.now s.now place least }
     requires outer { AreFound q.now stats.now s.now from (plan_in outer.now) }
     requires first { AreFound q.now stats.now s.now (from + one place) (plan_in first) }
     ensures { IfOk result (λ best. Offered q.now stats.now s.now (from + one place)
         (TakesAll (IsStepInto q.now stats.now.indexed from place)
         (TakesStep q.now stats.now s.now (cost_in outer.now) from)) first best) }
 {
-    let list = steps(alloc, q, stats.indexed(), from, place)?;
-    let mut best = first;
-    for step in &list {
-        best = offer_step(alloc, q, stats, s, cards, outer, from, place, *step, best)?;
-    }
+    let step = least_step(q, stats, s, from, place, least);
+    let best = offer_step(alloc, q, stats, s, cards, outer, from, place, step, first)?;
     Ok(best)
 }
 
@@ -140,6 +141,7 @@ fn by_place(
     stats: &Stats,
     s: &[u64],
     cards: &[u128],
+    loops: &[PricedAccess],
     cells: &[Cheapest],
     set: u8,
     place: u8,
@@ -149,6 +151,7 @@ fn by_place(
     requires sound { IsSoundStats q.now stats.now }
     requires vector { IsSoundVector q.now stats.now s.now }
     requires cards { AreCards q.now stats.now s.now cards.now }
+    requires loops { AreLeastAccesses q.now stats.now s.now (length q.now.places) loops.now }
     requires there { set < 2 ^ length q.now.places }
     requires place { place < length q.now.places }
     requires cells { AreCheapest q.now stats.now s.now cells.now set }
@@ -165,7 +168,8 @@ fn by_place(
         return Ok(best);
     }
     let outer = cell_at(cells, from);
-    let best = by_steps(alloc, q, stats, s, cards, outer, from, place, first)?;
+    let least = loops[usize::from(place)];
+    let best = by_steps(alloc, q, stats, s, cards, outer, from, place, least, first)?;
     Ok(best)
 }
 
@@ -176,6 +180,7 @@ pub(crate) fn by_places(
     stats: &Stats,
     s: &[u64],
     cards: &[u128],
+    loops: &[PricedAccess],
     cells: &[Cheapest],
     set: u8,
 ) -> Result<Cheapest, OutOfMemory>
@@ -183,6 +188,7 @@ pub(crate) fn by_places(
     requires sound { IsSoundStats q.now stats.now }
     requires vector { IsSoundVector q.now stats.now s.now }
     requires cards { AreCards q.now stats.now s.now cards.now }
+    requires loops { AreLeastAccesses q.now stats.now s.now (length q.now.places) loops.now }
     requires there { set < 2 ^ length q.now.places }
     requires cells { AreCheapest q.now stats.now s.now cells.now set }
     ensures { IfOk result (λ best. Offered q.now stats.now s.now set
@@ -194,7 +200,7 @@ pub(crate) fn by_places(
         sorted: None,
     };
     for place in 0..q.places().len() as u8 {
-        best = by_place(alloc, q, stats, s, cards, cells, set, place, best)?;
+        best = by_place(alloc, q, stats, s, cards, loops, cells, set, place, best)?;
     }
     Ok(best)
 }

@@ -17,4 +17,8 @@ mod tops;
 pub use optimizer::{Optimizer, optimise};
 
 #[cfg(test)]
+mod drawn_statements;
+#[cfg(test)]
+mod plain_search;
+#[cfg(test)]
 mod tests;

@@ -7,7 +7,7 @@ use crate::last_places::cell_at;
 use crate::potentials::potentials_of;
 use crate::search::cheapest_plans;
 use crate::tops::best_top;
-use plan_costs::{Best, Planner, Potentials, all_cards};
+use plan_costs::{Best, Planner, Potentials, all_cards, least_accesses};
 use plan_trees::{Stats, all_places};
 use row_values::{OutOfMemory, Query};
 use std::alloc::Global;
@@ -23,7 +23,8 @@ fn best_plan(alloc: Global, q: &Query, stats: &Stats, s: &[u64]) -> Result<Best,
     // That every statement is sound, its readers pass on: so it is read here first.
     let all = all_places(q.places().len());
     let cards = all_cards(alloc, q, stats, s)?;
-    let cells = cheapest_plans(alloc, q, stats, s, &cards)?;
+    let loops = least_accesses(alloc, q, stats, s)?;
+    let cells = cheapest_plans(alloc, q, stats, s, &cards, &loops)?;
     let finished = best_top(q, stats, s, cell_at(&cells, all))?;
     let list = potentials_of(alloc, &cells[1..])?;
     Ok(Best {

@@ -4,6 +4,7 @@ ghost use Rattle.row_values.specs.Statements.{IsSoundQuery};
 ghost use Rattle.plan_trees.specs.Statistics.{IsSoundStats, IsSoundVector};
 ghost use Rattle.plan_costs.specs.Cards.{AreCards};
 ghost use Rattle.join_optimizer.specs.Found.{AreFound, cost_in, plan_in, table_of};
+ghost use Rattle.plan_costs.specs.Least.{AreLeastAccesses};
 ghost use Rattle.cost_model.specs.LeastCost.{IsFeasiblePotential};
 ghost use Rattle.join_optimizer.specs.Search.{AreCheapest};
 
@@ -11,6 +12,7 @@ use crate::found::Cheapest;
 use crate::hash_joins::by_splits;
 use crate::last_places::by_places;
 use crate::sorts::by_sort;
+use plan_costs::PricedAccess;
 use plan_trees::{Stats, all_places};
 use row_values::{OutOfMemory, Query};
 use std::alloc::Global;
@@ -22,6 +24,7 @@ fn cheapest_of(
     stats: &Stats,
     s: &[u64],
     cards: &[u128],
+    loops: &[PricedAccess],
     cells: &[Cheapest],
     set: u8,
 ) -> Result<Cheapest, OutOfMemory>
@@ -29,6 +32,7 @@ fn cheapest_of(
     requires sound { IsSoundStats q.now stats.now }
     requires vector { IsSoundVector q.now stats.now s.now }
     requires cards { AreCards q.now stats.now s.now cards.now }
+    requires loops { AreLeastAccesses q.now stats.now s.now (length q.now.places) loops.now }
     requires some { 0 < set }
     requires there { set < 2 ^ length q.now.places }
     requires cells { AreCheapest q.now stats.now s.now cells.now set }
@@ -36,7 +40,7 @@ fn cheapest_of(
     ensures feasible { IfOk result (λ best. IsFeasiblePotential q.now stats.now s.now (table_of cells.now) set
         (cost_in best)) }
 {
-    let placed = by_places(alloc, q, stats, s, cards, cells, set)?;
+    let placed = by_places(alloc, q, stats, s, cards, loops, cells, set)?;
     let joined = by_splits(alloc, q, stats, s, cards, cells, set, placed)?;
     let best = by_sort(alloc, q, stats, s, cards, set, joined)?;
     Ok(best)
@@ -49,11 +53,13 @@ pub(crate) fn cheapest_plans(
     stats: &Stats,
     s: &[u64],
     cards: &[u128],
+    loops: &[PricedAccess],
 ) -> Result<Vec<Cheapest>, OutOfMemory>
     requires query { IsSoundQuery q.now }
     requires sound { IsSoundStats q.now stats.now }
     requires vector { IsSoundVector q.now stats.now s.now }
     requires cards { AreCards q.now stats.now s.now cards.now }
+    requires loops { AreLeastAccesses q.now stats.now s.now (length q.now.places) loops.now }
     ensures { IfOk result (λ cells. AreCheapest q.now stats.now s.now cells.items
         (2 ^ length q.now.places)) }
 {
@@ -64,7 +70,7 @@ pub(crate) fn cheapest_plans(
     })?;
     let end = all_places(q.places().len()) + 1;
     for set in 1..end {
-        let best = cheapest_of(alloc, q, stats, s, cards, &cells, set)?;
+        let best = cheapest_of(alloc, q, stats, s, cards, loops, &cells, set)?;
         cells.push(best)?;
     }
     Ok(cells)

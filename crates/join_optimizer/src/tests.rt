@@ -1,5 +1,7 @@
 //! Best plans of the worked statements, worked out by hand, with the weights that the program has
 //! by default.
+use crate::drawn_statements::{Form, drawn};
+use crate::plain_search::least_of_all;
 use crate::{Optimizer, optimise};
 use plan_costs::{Best, Planner};
 use plan_trees::{COST_SCALE, print_plan};
@@ -135,5 +137,54 @@ fn calls_of_one(alloc: Global, w: &Worked, s: &[u64]) -> Result<u64, OutOfMemory
 fn an_optimiser_counts(rt: HostRuntime) -> Result<(), Fail> {
     let w = interesting_order(rt.alloc())?.ok_or("not sound")?;
     assert_eq!(rt; calls_of_one(rt.alloc(), &w, &[500])?, 1, "asked once");
+    Ok(())
+}
+
+/// The cost of the best plan of a drawn statement, and the least cost of all its plans.
+fn both_least(
+    alloc: Global,
+    form: Form,
+    seed: u64,
+) -> Result<Option<(u128, Option<u128>)>, OutOfMemory> {
+    let Some((w, rows)) = drawn(alloc, form, seed)? else {
+        return Ok(None);
+    };
+    let s = [rows];
+    if !w.takes(&s) {
+        return Ok(None);
+    }
+    let mut calls = 0;
+    let best = optimise(alloc, &w.query, &w.stats, &s, &mut calls)?;
+    Ok(Some((best.cost, least_of_all(alloc, &w, &s)?)))
+}
+
+/// A statement over so many tables.
+fn form(tables: u8, ring: bool, ordered: bool, grouped: bool) -> Form {
+    Form {
+        tables,
+        ring,
+        ordered,
+        grouped,
+    }
+}
+
+#[test]
+fn no_plan_of_a_plain_search_is_cheaper(rt: HostRuntime) -> Result<(), Fail> {
+    let forms = [
+        ("a table in order", form(1, false, true, false)),
+        ("a table in groups", form(1, false, false, true)),
+        ("two tables", form(2, false, false, false)),
+        ("two tables in order", form(2, false, true, false)),
+        ("two tables in groups", form(2, false, false, true)),
+        ("three tables in a ring", form(3, true, false, false)),
+        ("three tables in order", form(3, false, true, false)),
+        ("three tables in groups", form(3, true, false, true)),
+    ];
+    for (what, form) in forms {
+        for seed in 0..5 {
+            let (found, least) = both_least(rt.alloc(), form, seed)?.ok_or("not sound")?;
+            assert_eq!(rt; Some(found), least, "{what}, drawn by {seed}");
+        }
+    }
     Ok(())
 }

@@ -4,4 +4,5 @@ use Rattle.join_optimizer.proofs.last_places.by_accesses.Given as goal
 
 -- the accesses so far were taken
 abbrev pub invariant-loop-access : goal.invariant-loop-access
-invariant-loop-access l = Offered l.q l.stats l.s (one l.place) (TakesEach (TakesAccess l.q l.stats l.s) l.access-items l.access-index) l.fn.first l.best
+invariant-loop-access l = Offered l.q l.stats l.s (one l.place)
+    (TakesEach (TakesAccess l.q l.stats l.s) l.access-items l.access-index) l.fn.first l.best

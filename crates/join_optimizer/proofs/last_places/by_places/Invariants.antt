@@ -5,4 +5,5 @@ use Rattle.join_optimizer.proofs.last_places.by_places.Given as goal
 
 -- the places so far were taken
 abbrev pub invariant-loop-place : goal.invariant-loop-place
-invariant-loop-place l = Offered l.q l.stats l.s l.set (TakesBetween (TakesPlace l.q l.stats l.s (table_of l.cells) l.set) 0 l.place) nothing l.best
+invariant-loop-place l = Offered l.q l.stats l.s l.set
+    (TakesBetween (TakesPlace l.q l.stats l.s (table_of l.cells) l.set) 0 l.place) nothing l.best
