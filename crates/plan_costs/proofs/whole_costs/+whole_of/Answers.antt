@@ -16,7 +16,7 @@ overflow_mul-result t c =
     ((costs_fit c.args.q.now c.args.stats.now c.args.s.now c.requires.query c.requires.sound c.requires.vector).plans
     (Base c.in-Base.access) valid).high in
     let same : COST_SCALE * c.access_unit.result
-        ≡ COST_SCALE * access_unit c.args.q.now c.args.stats.now c.args.s.now c.in-Base.access =
+    ≡ COST_SCALE * access_unit c.args.q.now c.args.stats.now c.args.s.now c.in-Base.access =
     ap (λ n. COST_SCALE * n) c.access_unit.ensures.value in
     omega arith
 
