@@ -6,3 +6,4 @@ pub mod OneList
 pub mod Orders
 pub mod Partitions
 pub mod SameHeads
+pub mod Wanted

@@ -23,7 +23,7 @@ one_number : (a b : ℕ) → nat_cmp a b ≡ Equal → a ≡ b
 one_number a b e = grind (arith, nat_tests)
 
 -- only a row itself ties with it
-only_itself : (table : TableValue) (column : ℕ) → IsFullOrder (is_before table column)
+pub only_itself : (table : TableValue) (column : ℕ) → IsFullOrder (is_before table column)
 only_itself table column =
     full_order_from (row_order table column)
     (then_total (on_total (λ (row : ℕ). cell_at table row column) cell_order_total)

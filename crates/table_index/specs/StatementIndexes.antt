@@ -1,12 +1,14 @@
 -- The indexes of a statement: a list with one entry for each place and column, place by place.
-use Rattle.std.specs.Prelude.{◌≡◌, ℕ, ◌+◌, ◌*◌, List, [], ◌∷◌, drop, length, map, slice_get, slice_index_or, sum_by, take}
-use Rattle.std.specs.Prelude.{Option, None, Some, option_and_then, option_map}
+use Rattle.std.specs.Prelude.{◌≡◌, ℕ, ◌+◌, ◌*◌, List, [], ◌∷◌, ◌++◌, drop, length, map, slice_get, slice_index_or, sum_by, take}
+use Rattle.std.specs.Prelude.{Option, None, Some, if◌then◌else◌, option_and_then, option_map}
 use Rattle.std.specs.Rc.{rc_value}
 use Rattle.std.specs.declared.rc.Rc.{Rc}
-use Rattle.row_values.specs.Statements.{Statement}
+use Rattle.row_values.specs.RowNumbers.{row_numbers}
+use Rattle.row_values.specs.Statements.{Statement, is_among}
+use Rattle.row_values.specs.declared.statement.ColRef.{ColRef}
 use Rattle.row_values.specs.declared.statement.Place.{Place}
 use Rattle.csv_tables.specs.Tables.{TableValue}
-use Rattle.table_index.specs.Indexes.{IndexValue, IsBuilt}
+use Rattle.table_index.specs.Indexes.{IndexValue, IsBuilt, rows_in_order}
 
 -- the indexes in a list of shared ones
 abbrev pub indexes_in : {Z : Type 0} → List (Option (Rc IndexValue Z)) → List (Option IndexValue)
@@ -41,3 +43,19 @@ mask_of (Some held ∷ entries) = 1 + 2 * mask_of entries
 -- the mask of each place
 abbrev pub masks_of : {T : Type 0} → List Place → List (Option T) → List ℕ
 masks_of places entries = map mask_of (entries_by_place places entries)
+
+-- the index of a table over a column
+abbrev pub index_over : TableValue → ℕ → IndexValue
+index_over table column = record { column = column; rows = rows_in_order table column }
+
+-- the entry of a column of a place: its index, where the column is among these
+abbrev pub wanted_entry : List ColRef → TableValue → ℕ → ℕ → Option IndexValue
+wanted_entry wanted table place column =
+    if is_among wanted (record { place = place; column = column }) then Some (index_over table column) else None
+
+-- the entries of the tables from this place on, table by table
+abbrev pub wanted_entries : List ColRef → ℕ → List TableValue → List (Option IndexValue)
+wanted_entries wanted place [] = []
+wanted_entries wanted place (table ∷ tables) =
+    map (wanted_entry wanted table place) (row_numbers (length table.schema))
+    ++ wanted_entries wanted (place + 1) tables
