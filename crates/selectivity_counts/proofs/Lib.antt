@@ -1,4 +1,10 @@
+pub mod ByPlace
+pub mod EntryMasks
+pub mod FixedTests
 pub mod IndexCounts
+pub mod KeptCounts
+pub mod MadeForTests
 pub mod Matching
 pub mod Placed
 pub mod Selectivities
+pub mod WidePlaces
