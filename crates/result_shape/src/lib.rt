@@ -1,10 +1,21 @@
 //! The last step of a statement: combinations of row numbers become result rows and their lines.
 //!
-//! For now a statement of one place without GROUP BY: `row_text` spells the result row of one row
-//! number.
+//! `finish` shapes a list of combinations, a `Shaper` takes them one at a time; `row_text` spells a
+//! row. `line_of_row` spells the row of a statement of one place without GROUP BY.
 #![tactic(auto)]
 
+mod groups;
 mod row_lines;
+mod row_texts;
+mod rows;
+mod shaper;
 mod spelling;
+mod tallies;
 
-pub use row_lines::row_text;
+pub use row_lines::line_of_row;
+pub use row_texts::row_text;
+pub use rows::{ROW_LIMIT, Rows, RowsFault};
+pub use shaper::{Pushed, Shaper, finish};
+
+#[cfg(test)]
+mod tests;

@@ -1,6 +1,6 @@
 //! The line of a result row of a statement of one place without GROUP BY.
 //!
-//! The line is `row `, then the items joined by commas, without an end. The way in is `row_text`.
+//! The line is `row `, then the items joined by commas, without an end. The way in is `line_of_row`.
 ghost use Rattle.std.specs.Prelude.{◌≡◌, ◌++◌, ◌∷◌, [], All, IfOk, IsTrue, OnOk, length, string_bytes};
 ghost use Rattle.statement_meaning.specs.Meaning.{shown_item, shown_row};
 ghost use Rattle.statement_meaning.specs.Spelling.{further_items, item_text, items_text, row_line};
@@ -59,7 +59,7 @@ fn push_items(text: &mut String, table: &Table, row: u32, items: &[Item]) -> Res
 }
 
 /// The line of the result row that a row of the table gives, without its end.
-pub fn row_text(alloc: Global, q: &Query, table: &Table, row: u32) -> Result<Words, OutOfMemory>
+pub fn line_of_row(alloc: Global, q: &Query, table: &Table, row: u32) -> Result<Words, OutOfMemory>
     requires place { length q.now.places ≡ 1 }
     requires plain { q.now.groups ≡ [] }
     ensures { IfOk result (λ text. text

@@ -65,7 +65,7 @@ fn push_escapes(text: &mut String, words: &str) -> Result<(), OutOfMemory>
 }
 
 /// Adds a text between double quotes.
-fn push_quoted(text: &mut String, words: &str) -> Result<(), OutOfMemory>
+pub fn push_quoted(text: &mut String, words: &str) -> Result<(), OutOfMemory>
     ensures { OnOk result (string_bytes text.new ≡ string_bytes text.old ++ quoted words.now) }
 {
     text.push('"')?;
@@ -75,7 +75,15 @@ fn push_quoted(text: &mut String, words: &str) -> Result<(), OutOfMemory>
 }
 
 /// Adds a whole number in decimal.
-fn push_number(text: &mut String, number: i64) -> Result<(), OutOfMemory>
+pub fn push_number(text: &mut String, number: i64) -> Result<(), OutOfMemory>
+    ensures { OnOk result (string_bytes text.new ≡ string_bytes text.old ++ signed_decimal number) }
+{
+    write!(text, "{number}")?;
+    Ok(())
+}
+
+/// Adds a whole number of up to 128 bits in decimal.
+pub fn push_whole(text: &mut String, number: i128) -> Result<(), OutOfMemory>
     ensures { OnOk result (string_bytes text.new ≡ string_bytes text.old ++ signed_decimal number) }
 {
     write!(text, "{number}")?;

@@ -12,7 +12,7 @@ ghost use Rattle.session_engine.specs.Executed.{Executed};
 use csv_tables::Table;
 use plan_operators::scan;
 use plan_trees::{Access, COST_SCALE, Plan, Top, print_plan};
-use result_shape::row_text;
+use result_shape::line_of_row;
 use row_values::{OutOfMemory, Query, Value, Words, selectivity_count};
 use script_report::{Execution, Lines};
 use selectivity_counts::vector;
@@ -74,7 +74,7 @@ fn row_lines(alloc: Global, q: &Query, table: &Table, rows: &[u32]) -> Result<Li
 {
     let mut lines = Lines::new(alloc);
     for row in rows {
-        lines.push(row_text(alloc, q, table, *row)?)?;
+        lines.push(line_of_row(alloc, q, table, *row)?)?;
     }
     Ok(lines)
 }

@@ -1,0 +1,59 @@
+-- What result rows show, and what a shaper stands for.
+use Rattle.std.specs.Prelude.{ℕ, ◌≡◌, ◌<◌, ◌≤◌, ◌++◌, ◌^◌, List, [], ◌∷◌, MatchResult, Result, length, map}
+use Rattle.row_values.specs.Statements.{Statement}
+use Rattle.row_values.specs.declared.values.Value.{Value}
+use Rattle.row_values.specs.declared.statement.Item.{Item}
+use Rattle.csv_tables.specs.StatementTables.{rows_in, tables_in}
+use Rattle.csv_tables.specs.Tables.{TableValue}
+use Rattle.statement_meaning.specs.Meaning.{Shown, shape_of, shown_row}
+use Rattle.result_shape.specs.Groups.{AreGroupsOf, AreReadyFor}
+use Rattle.result_shape.specs.Tallies.{tallies_shown}
+use Rattle.result_shape.specs.declared.rows.Kept.{Kept}
+use Rattle.result_shape.specs.declared.rows.Kept.TheVariants.{Plain, Groups}
+use Rattle.result_shape.specs.declared.rows.Rows.{Rows}
+use Rattle.result_shape.specs.declared.rows.RowsFault.{RowsFault}
+use Rattle.result_shape.specs.declared.rows.RowsFault.TheVariants.{TooManyRows, Memory}
+use Rattle.result_shape.specs.declared.rows.TheConstants.{ROW_LIMIT}
+use Rattle.result_shape.specs.declared.shaper.Pushed.{Pushed}
+use Rattle.result_shape.specs.declared.shaper.Pushed.TheVariants as pushed
+use Rattle.result_shape.specs.declared.shaper.Shaper.{Shaper}
+
+-- what is shown of rows as they are kept
+abbrev pub kept_shown : List (List (List Value)) → List Item → Kept → List (List Shown)
+kept_shown tables items (Plain combos) = map (λ c. shown_row tables items (c ∷ []) c) combos.items
+kept_shown tables items (Groups groups) = map (λ group. tallies_shown tables group.tallies.items) groups.items
+
+-- the rows that a statement shows
+abbrev pub rows_seen : Statement → Rows → List (List Shown)
+rows_seen q rows = kept_shown (rows_in (tables_in rows.tables.items)) q.items rows.kept
+
+-- the shaper has these tables, and stands for these combinations: without GROUP BY it keeps their row numbers, with
+-- GROUP BY their groups
+pub record StandsFor (q : Statement) (tables : List TableValue) (shaper : Shaper) (h : List (List ℕ)) : Type 0 where
+  pub tables_are : tables_in shaper.tables.now ≡ tables
+  pub ready : AreReadyFor q (rows_in tables) shaper.keys.items shaper.items.items
+  pub combos : q.groups ≡ [] → shaper.combos.items ≡ h
+  pub groups : 0 < length q.groups → AreGroupsOf q (rows_in tables) h shaper.groups.items
+
+-- the shaper stands for some combinations, fewer than 2 ^ 63
+abbrev pub IsStanding : Statement → Shaper → Type 0
+IsStanding q shaper = (tables : List TableValue) × ((h : List (List ℕ)) × (StandsFor q tables shaper h × (length h < 2 ^ 63)))
+
+-- what a push answers, and what the shaper stands for then
+abbrev pub IsPushed : Statement → List TableValue → List (List ℕ) → List ℕ → Shaper → Pushed → Type 0
+IsPushed q tables h c shaper pushed.More =
+    StandsFor q tables shaper (h ++ c ∷ []) × (q.groups ≡ [] → length h < ROW_LIMIT)
+IsPushed q tables h c shaper pushed.TooManyRows =
+    StandsFor q tables shaper h × (q.groups ≡ []) × (ROW_LIMIT ≤ length h)
+
+-- a refusal of this number of rows
+abbrev pub IsRefusedRows : ℕ → RowsFault → Type 0
+IsRefusedRows count TooManyRows = ROW_LIMIT < count
+IsRefusedRows count Memory = Unit {0}
+
+-- the rows of the shape; or there are too many
+abbrev pub IsShaped : Statement → List TableValue → List (List ℕ) → Result Rows RowsFault → Type 0
+IsShaped q tables h result =
+    MatchResult result
+    (λ rows. (rows_seen q rows ≡ shape_of q (rows_in tables) h) × (length (rows_seen q rows) ≤ ROW_LIMIT))
+    (IsRefusedRows (length (shape_of q (rows_in tables) h)))
