@@ -1,7 +1,6 @@
 pub mod Changes
 pub mod Comparing
 pub mod FirstLeast
-pub mod Fitting
 pub mod Ordering
 pub mod Steps
 pub mod Summing

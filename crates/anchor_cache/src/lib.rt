@@ -7,12 +7,10 @@
 
 mod anchors;
 mod cache;
-mod distances;
 mod kept_plans;
 mod window;
 
 pub use anchors::Anchor;
 pub use cache::Cache;
-pub use distances::{Growth, grown};
 pub use kept_plans::{Kept, PlanUses};
 pub use window::WindowEntry;

@@ -45,7 +45,7 @@ left_in_order c u t d v den = grind (arith, mul_assoc, mul_comm)
 right_in_order : (num o a f b g : ℕ) → num * o * (a * f) * (b * g) ≡ num * (a * b) * (o * (f * g))
 right_in_order num o a f b g = grind (arith, mul_assoc, mul_comm)
 
-less_by_both : (p r v w : ℕ) → p < r → v ≤ w → 1 ≤ w → p * v < r * w
+pub less_by_both : (p r v w : ℕ) → p < r → v ≤ w → 1 ≤ w → p * v < r * w
 less_by_both p r v w less more some =
     let a : (p + 1) * w ≤ r * w = mul-le-mul_right w (omega arith) in
     let b = add-mul p 1 w in
@@ -64,7 +64,7 @@ further c least num den u d a b t f v g low high up down outside more some =
 
 -- The check.
 
-check_fails : (left right : ℕ) → right < left → is_at_most left right ≡ false
+pub check_fails : (left right : ℕ) → right < left → is_at_most left right ≡ false
 check_fails left right less =
     and_right (nat_lt left (2 ^ 128) && nat_lt right (2 ^ 128)) (nat_le left right) (lt-leb left right less)
 

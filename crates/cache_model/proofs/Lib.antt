@@ -5,6 +5,7 @@ pub mod Distances
 pub mod Evicting
 pub mod FirstPassing
 pub mod Lists
+pub mod GreaterProducts
 pub mod LookUps
 pub mod Reusing
 pub mod Saving

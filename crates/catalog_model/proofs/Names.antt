@@ -2,6 +2,7 @@
 use Rattle.std.proofs.Common.{ℕ, ◌≡◌, ◌∙◌, ◌&&◌, ◌||◌, not, List, [], ◌∷◌, ◌++◌, Option, Some, None, ap, sym, refl, cond, Bool, true, false, All}
 use Rattle.std.specs.Option.{option_map}
 use Rattle.std.specs.Str.{bytes_eq}
+use Rattle.std.proofs.lemmas.Bool.{and_from, and_parts, not-false, not-true, or_from, or_parts}
 use Rattle.std.proofs.lemmas.Slice.Eq.{bytes_eq-Decides}
 use Rattle.std.proofs.lemmas.List.Elements.{All-weaker}
 use Rattle.row_values.specs.Statements.{Statement}
@@ -13,30 +14,6 @@ use Rattle.name_binder.specs.Catalog.{is_known, names_differ}
 use Rattle.catalog_model.specs.Catalogs.{TableState, StatementState, Version, find_table, find_statement, schemas_of, put_version, is_prepared, statements_differ}
 use Rattle.catalog_model.specs.Loading.{is_same_kind, are_same_columns, has_other_columns}
 use Rattle.catalog_model.specs.Sound.{IsLoaded}
-
-pub and_parts : (a b : Bool) → (a && b) ≡ true → (a ≡ true) × (b ≡ true)
-and_parts true b h = (refl, h)
-and_parts false b h = absurd cc
-
-pub and_join : (a b : Bool) → a ≡ true → b ≡ true → (a && b) ≡ true
-and_join true b p q = q
-and_join false b p q = absurd cc
-
-pub or_parts : (a b : Bool) → (a || b) ≡ false → (a ≡ false) × (b ≡ false)
-or_parts true b h = absurd cc
-or_parts false b h = (refl, h)
-
-pub or_join : (a b : Bool) → a ≡ false → b ≡ false → (a || b) ≡ false
-or_join true b p q = absurd cc
-or_join false b p q = q
-
-pub not_true : (a : Bool) → not a ≡ true → a ≡ false
-not_true true h = absurd cc
-not_true false h = refl
-
-not_false : (a : Bool) → not a ≡ false → a ≡ true
-not_false true h = refl
-not_false false h = absurd cc
 
 pub same_bytes : (a b : List ℕ) → bytes_eq a b ≡ true → a ≡ b
 same_bytes a b h = (bytes_eq-Decides a b).0 h
@@ -54,11 +31,11 @@ known_by : (test : Bool) (t : TableState) (ts : List TableState) (name other : L
 known_by true t ts name other version o h later = h
 known_by false t ts name other version o h later =
     let p = or_parts (bytes_eq t.name other) (is_known other (schemas_of ts)) h in
-    or_join (bytes_eq t.name other) _ p.0 (later p.1)
+    or_from (bytes_eq t.name other) _ p.0 (later p.1)
 
 known_put : (ts : List TableState) (name other : List ℕ) (version : Version) → bytes_eq name other ≡ false
     → is_known other (schemas_of ts) ≡ false → is_known other (schemas_of (put_version ts name version)) ≡ false
-known_put [] name other version o h = or_join (bytes_eq name other) _ o h
+known_put [] name other version o h = or_from (bytes_eq name other) _ o h
 known_put (t ∷ ts) name other version o h =
     known_by (bytes_eq name t.name) t ts name other version o h (known_put ts name other version o)
 
@@ -70,8 +47,8 @@ differ_by true t ts name version e h later = h
 differ_by false t ts name version e h later =
     let p = and_parts (not (is_known t.name (schemas_of ts))) (names_differ (schemas_of ts)) h in
     let k : is_known t.name (schemas_of (put_version ts name version)) ≡ false =
-    known_put ts name t.name version e (not_true _ p.0) in
-    and_join _ _ (ap not k) (later p.1)
+    known_put ts name t.name version e (not-true _ p.0) in
+    and_from _ _ (ap not k) (later p.1)
 
 -- no name stands twice
 pub differ_put : (ts : List TableState) (name : List ℕ) (version : Version) → names_differ (schemas_of ts) ≡ true
@@ -90,11 +67,11 @@ behind_by : (test : Bool) (p : StatementState) (ps : List StatementState) (name 
     (is_prepared other ps ≡ false → is_prepared other (ps ++ new_statement name q ∷ []) ≡ false)
     → (test || is_prepared other (ps ++ new_statement name q ∷ [])) ≡ false
 behind_by test p ps name other q o h later = let r = or_parts test (is_prepared other ps) h in
-    or_join test _ r.0 (later r.1)
+    or_from test _ r.0 (later r.1)
 
 prepared_behind : (ps : List StatementState) (name other : List ℕ) (q : Statement) → bytes_eq name other ≡ false
     → is_prepared other ps ≡ false → is_prepared other (ps ++ new_statement name q ∷ []) ≡ false
-prepared_behind [] name other q o h = or_join (bytes_eq name other) _ o h
+prepared_behind [] name other q o h = or_from (bytes_eq name other) _ o h
 prepared_behind (p ∷ ps) name other q o h =
     behind_by (bytes_eq p.name other) p ps name other q o h (prepared_behind ps name other q o)
 
@@ -110,7 +87,7 @@ differ_behind [] name q none h = refl
 differ_behind (p ∷ ps) name q none h =
     let n = none_by (bytes_eq name p.name) p.statement (find_statement ps name) none in
     let r = and_parts (not (is_prepared p.name ps)) (statements_differ ps) h in
-    and_join _ _ (ap not (prepared_behind ps name p.name q n.0 (not_true _ r.0))) (differ_behind ps name q n.1 r.1)
+    and_from _ _ (ap not (prepared_behind ps name p.name q n.0 (not-true _ r.0))) (differ_behind ps name q n.1 r.1)
 
 -- Columns.
 
@@ -159,7 +136,7 @@ kept_by : (test : Bool) (t : TableState) (ts : List TableState) (name other : Li
     option_map (λ (x : TableValue). x.schema)
     (find_table (cond test (renewed t version ∷ ts) (t ∷ put_version ts name version)) other) ≡ Some s
 kept_by true t ts name other version s o h later =
-    let columns : t.now.content.schema ≡ version.content.schema = same_columns _ _ (not_false _ o) in
+    let columns : t.now.content.schema ≡ version.content.schema = same_columns _ _ (not-false _ o) in
     sym (either_schema (bytes_eq other t.name) t.now.content version.content (find_table ts other) columns) ∙ h
 kept_by false t ts name other version s o h later =
     later_schema (bytes_eq other t.name) t.now.content (find_table ts other)

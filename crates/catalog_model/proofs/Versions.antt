@@ -1,11 +1,11 @@
 -- The numbers of versions as one is put, and what versions hold whose numbers differ.
 use Rattle.std.proofs.Common.{ℕ, ◌≡◌, ◌<◌, ◌+◌, ◌==◌, ◌&&◌, ◌||◌, not, List, [], ◌∷◌, ap, refl, cond, Bool, true, false, All, arith}
 use Rattle.std.specs.Str.{bytes_eq}
+use Rattle.std.proofs.lemmas.Bool.{and_from, and_parts, not-true, or_from, or_parts}
 use Rattle.std.proofs.lemmas.Bool.Decides.{nat_tests}
 use Rattle.std.proofs.lemmas.List.Elements.{All-cons, All-nil, All-head, All-tail, All-weaker}
 use Rattle.catalog_model.specs.Catalogs.{TableState, Version, put_version}
 use Rattle.catalog_model.specs.Held.{present_versions, has_number, numbers_differ, each_once, cells_in, bytes_in, cells_held, bytes_held}
-use Rattle.catalog_model.proofs.Names.{and_parts, and_join, or_parts, or_join, not_true}
 
 abbrev IsBefore : ℕ → TableState → Type 0
 IsBefore next table = table.now.number < next
@@ -22,7 +22,7 @@ once_by false v vs e later = ap (λ (rest : List Version). v ∷ rest) later
 pub once : (vs : List Version) → numbers_differ vs ≡ true → each_once vs ≡ vs
 once [] h = refl
 once (v ∷ vs) h = let p = and_parts (not (has_number v.number vs)) (numbers_differ vs) h in
-    once_by (has_number v.number vs) v vs (not_true _ p.0) (once vs p.1)
+    once_by (has_number v.number vs) v vs (not-true _ p.0) (once vs p.1)
 
 pub cells_once : (vs : List Version) → numbers_differ vs ≡ true → cells_held vs ≡ cells_in vs
 cells_once vs h = ap cells_in (once vs h)
@@ -36,7 +36,7 @@ fresh [] next a = refl
 fresh (t ∷ ts) next a =
     let before : t.now.number < next = All-head (IsBefore next) t ts a in
     let differs : (t.now.number == next) ≡ false = grind (arith, nat_tests) in
-    or_join (t.now.number == next) _ differs (fresh ts next (All-tail (IsBefore next) t ts a))
+    or_from (t.now.number == next) _ differs (fresh ts next (All-tail (IsBefore next) t ts a))
 
 other_by : (test : Bool) (t : TableState) (ts : List TableState) (name : List ℕ) (version : Version) (number : ℕ)
     → (version.number == number) ≡ false
@@ -46,15 +46,15 @@ other_by : (test : Bool) (t : TableState) (ts : List TableState) (name : List �
     has_number number (present_versions (cond test (renewed t version ∷ ts) (t ∷ put_version ts name version))) ≡ false
 other_by true t ts name version number o h later = let p =
     or_parts (t.now.number == number) (has_number number (present_versions ts)) h in
-    or_join (version.number == number) _ o p.1
+    or_from (version.number == number) _ o p.1
 other_by false t ts name version number o h later = let p =
     or_parts (t.now.number == number) (has_number number (present_versions ts)) h in
-    or_join (t.now.number == number) _ p.0 (later p.1)
+    or_from (t.now.number == number) _ p.0 (later p.1)
 
 other_put : (ts : List TableState) (name : List ℕ) (version : Version) (number : ℕ) → (version.number == number) ≡ false
     → has_number number (present_versions ts) ≡ false
     → has_number number (present_versions (put_version ts name version)) ≡ false
-other_put [] name version number o h = or_join (version.number == number) _ o h
+other_put [] name version number o h = or_from (version.number == number) _ o h
 other_put (t ∷ ts) name version number o h =
     other_by (bytes_eq name t.name) t ts name version number o h (other_put ts name version number o)
 
@@ -66,12 +66,12 @@ numbers_by : (test : Bool) (t : TableState) (ts : List TableState) (name : List 
     numbers_differ (present_versions (cond test (renewed t version ∷ ts) (t ∷ put_version ts name version))) ≡ true
 numbers_by true t ts name version a h later =
     let p = and_parts (not (has_number t.now.number (present_versions ts))) (numbers_differ (present_versions ts)) h in
-    and_join _ _ (ap not (fresh ts version.number (All-tail (IsBefore version.number) t ts a))) p.1
+    and_from _ _ (ap not (fresh ts version.number (All-tail (IsBefore version.number) t ts a))) p.1
 numbers_by false t ts name version a h later =
     let p = and_parts (not (has_number t.now.number (present_versions ts))) (numbers_differ (present_versions ts)) h in
     let before : t.now.number < version.number = All-head (IsBefore version.number) t ts a in
     let differs : (version.number == t.now.number) ≡ false = grind (arith, nat_tests) in
-    and_join _ _ (ap not (other_put ts name version t.now.number differs (not_true _ p.0)))
+    and_from _ _ (ap not (other_put ts name version t.now.number differs (not-true _ p.0)))
     (later (All-tail (IsBefore version.number) t ts a) p.1)
 
 -- the numbers differ still as the next version is put

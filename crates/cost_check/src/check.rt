@@ -13,7 +13,8 @@ ghost use Rattle.anchor_cache.specs.Instances.{HasCostAt, IsInstanceFor, cost_at
 ghost use Rattle.cost_check.specs.Answers.{as_choice, passes_by_cost};
 
 use crate::nearest::{RECOST_LIMIT, nearest_of};
-use anchor_cache::{Anchor, Cache, Kept, grown};
+use anchor_cache::{Anchor, Cache, Kept};
+use cost_polynomials::grown;
 use fraction_math::{Ratio, le_scaled};
 
 /// Where the anchor stands whose plan may be used again, and how many candidates were costed until then.

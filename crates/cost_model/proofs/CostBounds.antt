@@ -116,7 +116,7 @@ two a b x y n p q h k =
 weighed : (a x n : ℕ) → a ≤ 1000 → x ≤ n → a * x ≤ 1000 * n
 weighed a x n p h = mul-le-mul p h
 
-some_times : (a x : ℕ) → 1 ≤ a → 1 ≤ x → 1 ≤ a * x
+pub some_times : (a x : ℕ) → 1 ≤ a → 1 ≤ x → 1 ≤ a * x
 some_times a x p h = mul-le-mul {n₁ = 1} {m₁ = 1} p h
 
 look_up_le : (q : Statement) (s : Statistics) (vector : List ℕ) (place found : ℕ) → AreSized q s vector

@@ -8,9 +8,11 @@
 //! when the vector does.
 #![tactic(auto)]
 
+mod distances;
 mod gathering;
 pub mod laws;
 mod polynomial;
 
+pub use distances::{GrowthProducts, grown};
 pub use gathering::PolyFault;
 pub use polynomial::Poly;

@@ -15,7 +15,7 @@ use Rattle.cost_model.proofs.LowerBounds.{below_plan}
 use Rattle.join_optimizer.specs.declared.found.Cheapest.{Cheapest}
 use Rattle.join_optimizer.specs.Found.{Priced, AreFound, IsFound, cost_in, cost_of, nothing, plan_in, table_of}
 use Rattle.join_optimizer.specs.Search.{AreCheapest, Offered, TakesBetween}
-use Rattle.plan_costs.proofs.Listed.{below_next}
+use Rattle.plan_trees.proofs.ListLaws.{below_next}
 use Rattle.join_optimizer.proofs.Parts.{place_stays, split_stays}
 
 -- One set.

@@ -9,7 +9,7 @@ use Rattle.cost_model.specs.LeastCost.{AtMost, Costs}
 use Rattle.join_optimizer.specs.declared.found.Cheapest.{Cheapest}
 use Rattle.join_optimizer.specs.Found.{Priced, AreFound, IsFound, cheaper, cost_in, cost_of, plan_in}
 use Rattle.join_optimizer.specs.Search.{Keeps, Offered, TakesAll, TakesBetween, TakesEach}
-use Rattle.plan_costs.proofs.Listed.{below_next}
+use Rattle.plan_trees.proofs.ListLaws.{below_next}
 use Rattle.join_optimizer.proofs.Cheaper.{at_most_first, at_most_second, one_of_both}
 
 -- what holds in both orders

@@ -1,8 +1,8 @@
 -- Operands that a column takes, and predicates and edges that no misfit is among.
-use Rattle.std.proofs.Common.{ℕ, ◌≡◌, ◌<◌, ◌+◌, ◌==◌, nat_lt, List, [], ◌∷◌, length, Bool, true, false, not, ◌||◌}
+use Rattle.std.proofs.Common.{ℕ, ◌≡◌, ◌<◌, ◌+◌, ◌==◌, nat_lt, List, [], ◌∷◌, length, true, false, not, ◌||◌}
 use Rattle.std.proofs.Common.{Option, Some, None, IsSome, refl, arith, sym, subst}
 use Rattle.std.specs.List.{All, find, flat_map, list_all}
-use Rattle.std.proofs.lemmas.Bool.{eqb-false, ltb-false}
+use Rattle.std.proofs.lemmas.Bool.{eqb-false, ltb-false, not-false, or_parts}
 use Rattle.std.proofs.lemmas.List.Elements.{All-cons, All-nil}
 use Rattle.row_values.specs.Values.{kind_of}
 use Rattle.row_values.specs.Operands.{AreOperands}
@@ -36,10 +36,6 @@ one_kind (Some Int) (Some Text) h = cc
 one_kind (Some Text) None h = cc
 one_kind (Some Text) (Some Int) h = cc
 one_kind (Some Text) (Some Text) h = refl
-
-pub not_false : (b : Bool) → not b ≡ false → b ≡ true
-not_false true h = refl
-not_false false h = cc
 
 operand_fits : (left : Option Kind) (n : ℕ) (a : RawOperand) → IsSome left → takes_operand left a ≡ true
     → IsOperand left (operand_from n a)
@@ -90,18 +86,14 @@ test_fits left n t there h spelled short =
     subst (λ (operands : List Operand). AreOperands operands × All (IsOperand left) operands) (sym (from_operands n t))
     (are_operands n (operands_of t) (some_operand t spelled) short, operands_fit left n (operands_of t) there h)
 
-either_false : (a b : Bool) → (a || b) ≡ false → (a ≡ false) × (b ≡ false)
-either_false true b h = cc
-either_false false b h = (refl, h)
-
 edge_fits : (places : List Place) (a b : RawRef) → is_unknown places a ≡ false → is_misfit places (Same a b) ≡ false
     → IsEdge places (record { left = meant places a; right = meant places b })
 edge_fits places a b known h =
-    let both = either_false (place_number a places == place_number b places)
+    let both = or_parts (place_number a places == place_number b places)
     (not (are_one_kind (kind_meant places a) (kind_meant places b))) h in
     record {
       there = known_column a places known;
-      one_kind = one_kind (kind_meant places a) (kind_meant places b) (not_false _ both.1);
+      one_kind = one_kind (kind_meant places a) (kind_meant places b) (not-false _ both.1);
       two_places = eqb-false (place_number a places) (place_number b places) both.0;
     }
 
@@ -116,8 +108,8 @@ preds_fit places n (Test r t ∷ conds) known fit spelled short =
     let spelled_test = both_right (is_ref r) (is_test t) (both_left (is_cond (Test r t)) (each is_cond conds) spelled)
     in
     let spelled_rest = both_right (is_cond (Test r t)) (each is_cond conds) spelled in
-    let s = either_false (is_long t) (has_long conds) short in
-    All-cons (IsPred places) _ _ (test_fits (kind_meant places r) n t (known_column r places k.0) (not_false _ f.0)
+    let s = or_parts (is_long t) (has_long conds) short in
+    All-cons (IsPred places) _ _ (test_fits (kind_meant places r) n t (known_column r places k.0) (not-false _ f.0)
     spelled_test s.0)
     (preds_fit places (n + test_count t) conds k.1 f.1 spelled_rest s.1)
 preds_fit places n (Same a b ∷ conds) known fit spelled short =

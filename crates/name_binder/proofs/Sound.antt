@@ -3,7 +3,7 @@ use Rattle.std.proofs.Common.{◌≡◌, ◌<◌, ◌≤◌, nat_lt, List, [], �
 use Rattle.std.proofs.Common.{IsTrue, Option, Some, None, IsSome, refl, arith}
 use Rattle.std.specs.Option.{option_map, option_and_then}
 use Rattle.std.specs.List.{All, find, flat_map, filter_map}
-use Rattle.std.proofs.lemmas.Bool.{ltb-false}
+use Rattle.std.proofs.lemmas.Bool.{ltb-false, not-false, or_parts}
 use Rattle.std.proofs.lemmas.List.{length-map}
 use Rattle.std.proofs.lemmas.List.Elements.{All-cons, All-nil}
 use Rattle.row_values.specs.Statements.{IsSoundQuery, IsColumn, IsItem, AreGrouped, is_column_item, is_grouped_item}
@@ -33,7 +33,7 @@ use Rattle.name_binder.specs.declared.faults.BindFault.{BindFault}
 use Rattle.name_binder.specs.declared.faults.BindFault.TheVariants.{UnknownColumn, Ambiguous, Misfit, AliasTwice}
 use Rattle.name_binder.specs.declared.faults.BindFault.TheVariants.{TooMany, NotGrouped, SumOfText}
 use Rattle.name_binder.proofs.Apart.{distinct}
-use Rattle.name_binder.proofs.Fitting.{preds_fit, edges_fit, not_false}
+use Rattle.name_binder.proofs.Fitting.{preds_fit, edges_fit}
 use Rattle.name_binder.proofs.Found.{split_none, or_none, map_none, append_none, all_mapped}
 use Rattle.name_binder.proofs.Known.{known_column}
 use Rattle.name_binder.proofs.Numbered.{numbered, selectivities, conditions}
@@ -48,10 +48,6 @@ pub record FitsLimits (s : Parts) : Type 0 where
   pub groups : length s.groups ≤ KEY_LIMIT
   pub order : length s.order ≤ KEY_LIMIT
 
-either_false : (a b : Bool) → (a || b) ≡ false → (a ≡ false) × (b ≡ false)
-either_false true b h = cc
-either_false false b h = (refl, h)
-
 pub fits_limits : (s : Parts) → first_excess s ≡ None → FitsLimits s
 fits_limits s h =
     let tables = split_none (nat_lt PLACE_LIMIT (length s.places)) _ _ h in
@@ -60,7 +56,7 @@ fits_limits s h =
     let operands = split_none (has_long s.conds) _ _ conditions.1 in
     let items = split_none (nat_lt ITEM_LIMIT (length s.items)) _ _ operands.1 in
     let keys = split_none (nat_lt KEY_LIMIT (length s.groups) || nat_lt KEY_LIMIT (length s.order)) _ _ items.1 in
-    let both = either_false (nat_lt KEY_LIMIT (length s.groups)) (nat_lt KEY_LIMIT (length s.order)) keys.0 in
+    let both = or_parts (nat_lt KEY_LIMIT (length s.groups)) (nat_lt KEY_LIMIT (length s.order)) keys.0 in
     record {
       places = ltb-false PLACE_LIMIT (length s.places) tables.0;
       selectivities = ltb-false SELECTIVITY_LIMIT (parameterised_count s.conds) predicates.0;
@@ -117,14 +113,14 @@ groups_fit : (groups : List ColRef) (places : List Place) (items : List RawItem)
     → AreGrouped groups (map (bound_item places) items) (map (bound_key places) order)
 groups_fit [] places items order no_item no_key =
     all_mapped (λ i. is_ungrouped_item [] (bound_item places i)) (bound_item places) (λ i. IsTrue (is_column_item i))
-    items (λ i h. not_false _ h) no_item
+    items (λ i h. not-false _ h) no_item
 groups_fit (group ∷ groups) places items order no_item no_key = (
   all_mapped (λ i. is_ungrouped_item (group ∷ groups) (bound_item places i)) (bound_item places)
       (λ i. IsTrue (is_grouped_item (group ∷ groups) i)) items
-      (λ i h. not_false _ h) no_item,
+      (λ i h. not-false _ h) no_item,
   all_mapped (λ key. is_ungrouped_key (group ∷ groups) (meant places key.at)) (bound_key places)
       (λ key. IsTrue (is_among (group ∷ groups) key.at)) order
-      (λ key h. not_false _ h) no_key,
+      (λ key h. not-false _ h) no_key,
 )
 
 some_one : {T : Type 0} (xs : List T) → is_some xs ≡ true → 0 < length xs

@@ -20,7 +20,7 @@ use Rattle.plan_costs.proofs.StepParts.{step_by_parts}
 use Rattle.plan_costs.specs.declared.cheapest_accesses.PricedAccess.{PricedAccess}
 use Rattle.plan_costs.specs.declared.cheapest_steps.PricedStep.{PricedStep}
 use Rattle.plan_costs.specs.Least.{AreLeastAccesses, IsLeastAccess, IsLeastStep, IsPricedAccess, IsPricedStep}
-use Rattle.plan_costs.proofs.Listed.{below_next}
+use Rattle.plan_trees.proofs.ListLaws.{below_next}
 
 -- Accesses.
 

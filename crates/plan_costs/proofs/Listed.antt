@@ -1,13 +1,10 @@
 -- Lists of all that is wanted, and the least of what they hold.
 use Rattle.std.proofs.Common.{ℕ, ◌≡◌, ◌≤◌, ◌<◌, ◌+◌, ◌⊎◌, inl, inr, List, length, slice_get, slice_index_or, Some, sym}
 use Rattle.std.proofs.Common.{subst, subst₂, arith, lt_of_lt_of_le}
-use Rattle.std.proofs.lemmas.Bool.{cases_lt}
 use Rattle.std.proofs.lemmas.List.Elements.{Contains-get_or}
 use Rattle.std.proofs.lemmas.Option.{slice_get-get_or}
 use Rattle.plan_trees.specs.Lists.{IsListOf}
-
-pub below_next : (k n : ℕ) → k < n + 1 → (k < n) ⊎ (k ≡ n)
-below_next k n h = grind (arith, cases_lt)
+use Rattle.plan_trees.proofs.ListLaws.{below_next}
 
 -- Lists that are read at a position.
 

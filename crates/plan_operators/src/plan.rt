@@ -20,7 +20,7 @@ use crate::nested_loop_join::nested_loop_join;
 use crate::sort::sort;
 use crate::source::{Side, Source};
 use csv_tables::Table;
-use plan_trees::{Plan, Top};
+use plan_trees::{Plan, Top, plan_under};
 use row_values::{OutOfMemory, Query, Value};
 use std::alloc::Global;
 use std::rc::Rc;
@@ -54,17 +54,6 @@ fn run(alloc: Global, source: &Source<'_>, p: &Plan) -> Result<Side, OutOfMemory
             let side = run(alloc, source, outer)?;
             sort(alloc, source, side)
         }
-    }
-}
-
-/// The plan under a top.
-fn plan_under(p: &Top) -> &Plan
-    ensures { tree result.now ≡ plan_below (top_tree p.now) }
-{
-    match p {
-        Top::Rows(plan) => plan,
-        Top::SortedGroups(plan) => plan,
-        Top::HashGroups(plan) => plan,
     }
 }
 

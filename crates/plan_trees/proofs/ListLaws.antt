@@ -82,7 +82,7 @@ listed P Wanted before list e g h =
 
 -- Numbers below one more.
 
-below_next : (k n : ℕ) → k < n + 1 → (k < n) ⊎ (k ≡ n)
+pub below_next : (k n : ℕ) → k < n + 1 → (k < n) ⊎ (k ≡ n)
 below_next k n h = grind (arith, cases_lt)
 
 -- Ranges and full index scans.

@@ -26,7 +26,7 @@ pub use selectivities::Vector;
 pub use statistics::{Indexed, Stats, Weights};
 pub use validity::{
     edge_column, groups_rows, has_wanted, is_sorted, is_sorted_access, is_valid_access,
-    is_valid_hash_join, is_valid_step, valid, wants_some_order,
+    is_valid_hash_join, is_valid_step, plan_under, valid, wants_some_order,
 };
 
 #[cfg(test)]

@@ -307,7 +307,7 @@ fn suits(q: &Query, p: &Top) -> bool
 }
 
 /// The plan under a top.
-fn plan_under(p: &Top) -> &Plan
+pub fn plan_under(p: &Top) -> &Plan
     ensures { tree result.now ≡ plan_below (top_tree p.now) }
 {
     match p {

@@ -1,18 +1,17 @@
 -- An anchor that is not near by its first selectivity fails the selectivity check.
 use Rattle.std.proofs.Common.{ℕ, ◌≡◌, ◌≤◌, ◌<◌, ◌+◌, ◌*◌, ◌^◌, ◌&&◌, ◌⊎◌, inl, inr, min, max, Bool, true, false}
-use Rattle.std.proofs.Common.{nat_lt, nat_le}
+use Rattle.std.proofs.Common.{nat_le}
 use Rattle.std.proofs.Common.{All, List, length, slice_index, slice_index_or, refl, sym, arith, mul_assoc, mul_comm}
 use Rattle.std.proofs.Common.{mul-le-mul, mul-le-mul_left}
-use Rattle.std.proofs.Common.{mul-le-mul_right, add-mul}
-use Rattle.std.proofs.lemmas.Bool.{and_right, cases_lt, leb-false, lt-leb}
+use Rattle.std.proofs.Common.{mul-le-mul_right}
+use Rattle.std.proofs.lemmas.Bool.{cases_lt, leb-false}
 use Rattle.fraction_math.specs.Fraction.{Fraction}
 use Rattle.cost_polynomials.specs.Growth.{grown_to, grown_from, shrunk_to, shrunk_from}
 use Rattle.cost_polynomials.proofs.Growth.{from_below_to}
 use Rattle.cost_model.proofs.CheckBounds.{to_some}
 use Rattle.cache_model.specs.Caches.{Anchor}
-use Rattle.cache_model.specs.Choices.{is_at_most, passes_selectivity_check}
-use Rattle.cache_model.specs.Laws.{IsOutside}
-use Rattle.cache_model.proofs.Distances.{fails_outside}
+use Rattle.cache_model.specs.Choices.{passes_selectivity_check}
+use Rattle.cache_model.proofs.Distances.{check_fails, fails_outside, less_by_both}
 use Rattle.anchor_cache.specs.declared.kept_plans.Kept.{Kept}
 use Rattle.anchor_cache.specs.Contents.{IsKeptAnchor}
 use Rattle.anchor_cache.specs.Window.{entry_of}
@@ -25,17 +24,6 @@ left_in_order c u d den = grind (arith, mul_assoc, mul_comm)
 
 right_in_order : (num o f g : ℕ) → num * o * f * g ≡ num * (o * (f * g))
 right_in_order num o f g = grind (arith, mul_assoc)
-
-less_by_both : (p r v w : ℕ) → p < r → v ≤ w → 1 ≤ w → p * v < r * w
-less_by_both p r v w less more some =
-    let a : (p + 1) * w ≤ r * w = mul-le-mul_right w (omega arith) in
-    let b = add-mul p 1 w in
-    let e : p * v ≤ p * w = mul-le-mul_left p more in
-    omega arith
-
-check_fails : (left right : ℕ) → right < left → is_at_most left right ≡ false
-check_fails left right less =
-    and_right (nat_lt left (2 ^ 128) && nat_lt right (2 ^ 128)) (nat_le left right) (lt-leb left right less)
 
 below_one : (lambda : Fraction) (instance : List ℕ) (anchor : Anchor) → lambda.num < lambda.den → 1 ≤ anchor.least
     → anchor.least ≤ anchor.plan_cost → passes_selectivity_check lambda instance anchor ≡ false

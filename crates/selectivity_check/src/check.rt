@@ -9,7 +9,8 @@ ghost use Rattle.anchor_cache.specs.declared.window.WindowEntry.{WindowEntry as 
 ghost use Rattle.selectivity_check.specs.Search.{IsFirstOf, place_in};
 
 use crate::window::window;
-use anchor_cache::{Anchor, Cache, WindowEntry, grown};
+use anchor_cache::{Anchor, Cache, WindowEntry};
+use cost_polynomials::grown;
 use fraction_math::{Ratio, le_scaled};
 
 /// Whether the anchor's plan may answer the instance.

@@ -6,7 +6,7 @@ use Rattle.std.specs.Option.{option_map}
 use Rattle.std.specs.Rc.{rc_value}
 use Rattle.std.specs.declared.rc.Rc.{Rc}
 use Rattle.std.proofs.lemmas.List.{append_assoc, length-map}
-use Rattle.std.proofs.lemmas.List.Elements.{All-head, All-map, All-tail}
+use Rattle.std.proofs.lemmas.List.Elements.{All-map}
 use Rattle.std.proofs.lemmas.Option.{get_or_from_slice_get, slice_get-map, slice_get_within}
 use Rattle.row_values.specs.Statements.{IsColumn, IsEdge, IsSoundQuery, Statement}
 use Rattle.row_values.specs.declared.columns.Column.{Column}
@@ -21,6 +21,7 @@ use Rattle.plan_trees.specs.Statistics.{AreWeights, IsSoundStats, by_place, colu
 use Rattle.plan_trees.specs.declared.statistics.Weights.{Weights}
 use Rattle.statement_meaning.specs.Combinations.{rows_at}
 use Rattle.statement_statistics.specs.Statistics.{distinct_count, edge_count, edge_counts, fan_count, fan_counts, first_wide, fixed_counts, matching_counts, numbered, row_count, row_counts, stats_of}
+use Rattle.statement_statistics.proofs.SameRows.{map_agree}
 use Rattle.statement_statistics.proofs.Numbered.{at_place, map-numbered}
 use Rattle.statement_statistics.proofs.SoundStats.{sound_stats}
 use Rattle.selectivity_counts.specs.Kept.{distinct_at, distinct_counts, fans_from, kept_edge}
@@ -75,13 +76,6 @@ kept_distinct q tables are at there =
     by_table tables at (slice_get tables at.place) it.0 refl same it.2
 
 -- Edges.
-
-map_agree : {A B : Type 0} (f g : A → B) (P : A → Type 0) (xs : List A) → All P xs → ((x : A) → P x → f x ≡ g x)
-    → map f xs ≡ map g xs
-map_agree f g P [] all h = refl
-map_agree {B = B} f g P (x ∷ xs) all h =
-    ap (λ (y : B). y ∷ map f xs) (h x (All-head P x xs all))
-    ∙ ap (λ (ys : List B). g x ∷ ys) (map_agree f g P xs (All-tail P x xs all) h)
 
 pub kept_edges : (q : Statement) (tables : List TableValue) → IsSoundQuery q → AreTablesOf q tables
     → map (kept_edge (map distinct_counts tables)) q.edges ≡ edge_counts q (rows_in tables)

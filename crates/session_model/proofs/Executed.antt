@@ -1,5 +1,6 @@
 -- The scan of a statement that is executed so far is a valid plan, and shows an execution.
 use Rattle.std.proofs.Common.{ℕ, ◌≡◌, ◌==◌, ◌&&◌, nat_le, List, [], ◌∷◌, length, Bool, true, false, cond, Some, None, refl, arith, ap, sym, ◌∙◌}
+use Rattle.std.proofs.lemmas.Bool.{and_parts}
 use Rattle.std.proofs.lemmas.Bool.Decides.{nat_tests}
 use Rattle.row_values.specs.Statements.{Statement, selectivity_count}
 use Rattle.row_values.specs.declared.refusals.Refusal.{Refusal}
@@ -7,10 +8,6 @@ use Rattle.row_values.specs.declared.values.Value.{Value}
 use Rattle.plan_trees.specs.PlaceSets.{all_below}
 use Rattle.plan_trees.specs.PlanSpace.{IsValidTop, is_grouped, wants_order}
 use Rattle.session_model.specs.Executions.{is_built, refusal_of_rows, scan_plan, IsExecution, scan_execution}
-
-and_parts : (a b : Bool) → (a && b) ≡ true → (a ≡ true) × (b ≡ true)
-and_parts true b h = (refl, h)
-and_parts false b h = absurd cc
 
 no_items : {T : Type 0} (xs : List T) → (length xs == 0) ≡ true → xs ≡ []
 no_items [] h = refl

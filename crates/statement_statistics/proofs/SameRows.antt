@@ -17,7 +17,7 @@ use Rattle.statement_statistics.specs.Laws.{HaveSameRows}
 use Rattle.statement_statistics.specs.Statistics.{distinct_count, edge_count, edge_counts, fan_count, fan_counts, first_above, first_wide, fixed_count, fixed_counts, matching_count, matching_counts, numbered, row_count, row_counts, stats_of}
 use Rattle.statement_statistics.proofs.Numbered.{numbered_agree}
 
-map_agree : {A B : Type 0} (f g : A → B) (P : A → Type 0) (xs : List A) → All P xs → ((x : A) → P x → f x ≡ g x)
+pub map_agree : {A B : Type 0} (f g : A → B) (P : A → Type 0) (xs : List A) → All P xs → ((x : A) → P x → f x ≡ g x)
     → map f xs ≡ map g xs
 map_agree f g P [] all h = refl
 map_agree {B = B} f g P (x ∷ xs) all h =

@@ -3,8 +3,9 @@
 //! `SELECT t.v FROM t WHERE t.v < ?` over a thousand rows: where s rows are met, a range of the index on v costs
 //! 10 + 2 s, and reading all rows costs 1000. Over 40,000 rows and with no index all rows are read.
 use crate::WorkedCache;
-use anchor_cache::{Anchor, Cache, PlanUses, WindowEntry, grown};
+use anchor_cache::{Anchor, Cache, PlanUses, WindowEntry};
 use cost_check::CostAnswer;
+use cost_polynomials::grown;
 use fraction_math::Ratio;
 use plan_trees::{Access, COST_SCALE, Plan, Top};
 use row_values::{Operand, OutOfMemory, Pred, Test};

@@ -3,7 +3,6 @@ use Rattle.std.proofs.Common.{ℕ, zero, suc, ◌≡◌, ◌<◌, ◌+◌, ◌*�
 use Rattle.std.proofs.Common.{◌∷◌, length, map, take, drop, slice_get, slice_index, slice_index_or, Some, sym, refl}
 use Rattle.std.proofs.Common.{subst, subst₂, arith, add-one, mul_assoc, length-drop, if◌then◌else◌}
 use Rattle.std.proofs.Math.Seq.{drop-cons}
-use Rattle.std.proofs.lemmas.Bool.{cases_lt}
 use Rattle.std.proofs.lemmas.List.{length-take-le}
 use Rattle.std.proofs.lemmas.List.Sums.{sum_by-cons}
 use Rattle.std.proofs.lemmas.Option.{slice_get-get_or}
@@ -13,12 +12,10 @@ use Rattle.row_values.specs.declared.statement.Pred.{Pred}
 use Rattle.plan_trees.specs.declared.statistics.Weights.{Weights}
 use Rattle.plan_trees.specs.Statistics.{IsSoundStats, IsSoundVector, IsWithin, Statistics, by_place, column_count}
 use Rattle.plan_trees.specs.Statistics.{selectivities_on, selectivity_places, statistics_of, weighted_size}
+use Rattle.plan_trees.proofs.ListLaws.{below_next}
 use Rattle.worked_statements.specs.Fitting.{ArePartsSound, DoFansFit, DoesVectorFit}
 
 -- Predicates.
-
-below_next : (k n : ℕ) → k < n + 1 → (k < n) ⊎ (k ≡ n)
-below_next k n h = grind (arith, cases_lt)
 
 abbrev pub MatchBefore : List Pred → List ℕ → List ℕ → ℕ → Type 0
 MatchBefore preds rows matching count =

@@ -1,5 +1,5 @@
 use Rattle.std.proofs.Common.{arith}
-use Rattle.anchor_cache.proofs.Fitting.{shrunk_fits}
+use Rattle.cache_model.proofs.GreaterProducts.{shrunk_fits}
 use Rattle.cost_check.proofs.check.is_enough.Goals as goal
 
 pub grown-down-requires-clause-fits : goal.grown-down-requires-clause-fits

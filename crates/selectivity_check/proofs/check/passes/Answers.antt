@@ -1,5 +1,5 @@
 use Rattle.std.proofs.Common.{arith}
-use Rattle.anchor_cache.proofs.Fitting.{grown_fits, shrunk_fits}
+use Rattle.cache_model.proofs.GreaterProducts.{grown_fits, shrunk_fits}
 use Rattle.selectivity_check.proofs.check.passes.Goals as goal
 
 pub grown-up-requires-clause-fits : goal.grown-up-requires-clause-fits

@@ -4,13 +4,13 @@ ghost use Rattle.cost_polynomials.specs.Growth.{grown_from, grown_to};
 
 /// The numbers that grew from one vector to another, multiplied: as they are now, and as they were.
 #[derive(Clone, Copy, Debug, PartialEq, Eq)]
-pub struct Growth {
+pub struct GrowthProducts {
     pub to: u64,
     pub from: u64,
 }
 
 /// What grew from one vector to another. It takes no memory.
-pub fn grown(to: &[u64], from: &[u64]) -> Growth
+pub fn grown(to: &[u64], from: &[u64]) -> GrowthProducts
     requires numbers { All (λ n. 1 ≤ n) from.now }
     requires fits { grown_to to.now from.now < 2 ^ 64 }
     ensures to { result.to ≡ grown_to to.now from.now }
@@ -19,13 +19,13 @@ pub fn grown(to: &[u64], from: &[u64]) -> Growth
     ensures more { result.from ≤ result.to }
 {
     match to {
-        [] => Growth { to: 1, from: 1 },
+        [] => GrowthProducts { to: 1, from: 1 },
         [new, to @ ..] => match from {
-            [] => Growth { to: 1, from: 1 },
+            [] => GrowthProducts { to: 1, from: 1 },
             [old, from @ ..] => {
                 let rest = grown(to, from);
                 if old < new {
-                    Growth {
+                    GrowthProducts {
                         to: new * rest.to,
                         from: old * rest.from,
                     }

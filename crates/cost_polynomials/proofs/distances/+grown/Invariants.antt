@@ -1,5 +1,5 @@
 use Rattle.std.proofs.Common.{length}
-use Rattle.anchor_cache.proofs.distances.+grown.Given as goal
+use Rattle.cost_polynomials.proofs.distances.+grown.Given as goal
 
 -- the numbers that are left
 abbrev pub decreases-grown : goal.decreases-grown
