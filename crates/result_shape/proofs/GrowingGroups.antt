@@ -71,13 +71,13 @@ any_or_all {X = X} p (x ∷ xs) h = by_test (p x) refl h (any_or_all p xs)
     by_test true e k rest = absurd (false≢true (sym k))
     by_test false e k rest = All-cons (λ x. p x ≡ false) x xs e (rest k)
 
-all_parts : {X : Type 0} (P : X → Type 0) (xs ys : List X) → All P (xs ++ ys) → All P xs × All P ys
+pub all_parts : {X : Type 0} (P : X → Type 0) (xs ys : List X) → All P (xs ++ ys) → All P xs × All P ys
 all_parts P [] ys a = (All-nil P, a)
 all_parts P (x ∷ xs) ys a =
     let rest = all_parts P xs ys (All-tail P x (xs ++ ys) a) in
     (All-cons P x xs (All-head P x (xs ++ ys) a) rest.0, rest.1)
 
-all_of_map : {X Y : Type 0} (f : X → Y) (P : Y → Type 0) (xs : List X) → All P (map f xs) → All (λ x. P (f x)) xs
+pub all_of_map : {X Y : Type 0} (f : X → Y) (P : Y → Type 0) (xs : List X) → All P (map f xs) → All (λ x. P (f x)) xs
 all_of_map f P [] a = All-nil (λ x. P (f x))
 all_of_map f P (x ∷ xs) a =
     All-cons (λ x. P (f x)) x xs (All-head P (f x) (map f xs) a)

@@ -1,7 +1,6 @@
-pub mod Escapes
 pub mod GrowingGroups
-pub mod PlainItems
 pub mod Places
+pub mod RunPlaces
 pub mod Shapes
 pub mod StrictOrder
 pub mod TakenIn

@@ -1,13 +1,13 @@
 -- Lists in strict order: where an element goes in, and what stands before and behind it.
 use Rattle.std.proofs.Common.{zero, suc, ◌≡◌, ◌+◌, ◌++◌, List, [], ◌∷◌, map, get_or}
-use Rattle.std.proofs.Common.{ap, ◌∙◌, arith}
+use Rattle.std.proofs.Common.{false, ap, sym, ◌∙◌, refl, arith}
 use Rattle.std.specs.Prelude.{All, IsSortedBy}
 use Rattle.std.specs.List.{AllByRecursion}
 use Rattle.std.specs.List.Sorted.{IsStrictlySortedBy}
 use Rattle.std.specs.Cmp.{IsTotalOrder}
-use Rattle.std.specs.Ordering.{is_lt, ordering_reverse}
+use Rattle.std.specs.Ordering.{is_gt, is_lt, ordering_reverse}
 use Rattle.std.specs.declared.cmp.Ordering.{Ordering}
-use Rattle.std.specs.declared.cmp.Ordering.TheVariants.{Less, Greater}
+use Rattle.std.specs.declared.cmp.Ordering.TheVariants.{Less, Equal, Greater}
 use Rattle.std.proofs.lemmas.List.Elements.{All-nil, All-cons, All-head, All-tail, All-from_recursion}
 use Rattle.std.proofs.lemmas.List.Elements.{recursion_from_All}
 
@@ -57,6 +57,39 @@ pub strict_behind : {X : Type 0} (cmp : X → X → Ordering) (xs ys : List X) (
 unfolding IsStrictlySortedBy
 strict_behind cmp [] ys n s = All-from_recursion (λ y. cmp n y ≡ Less) ys s.0
 strict_behind cmp (x ∷ xs) ys n s = strict_behind cmp xs ys n s.1
+
+-- each of two parts of a list in strict order is in strict order
+before_part : {X : Type 0} (P : X → Type 0) (xs ys : List X) → AllByRecursion P (xs ++ ys) → AllByRecursion P xs
+before_part P [] ys h = tt
+before_part P (x ∷ xs) ys h = (h.0, before_part P xs ys h.1)
+
+pub strict_front : {X : Type 0} (cmp : X → X → Ordering) (xs ys : List X) → IsStrictlySortedBy cmp (xs ++ ys)
+    → IsStrictlySortedBy cmp xs
+unfolding IsStrictlySortedBy
+strict_front cmp [] ys s = tt
+strict_front cmp (x ∷ xs) ys s = (before_part (λ y. cmp x y ≡ Less) xs ys s.0, strict_front cmp xs ys s.1)
+
+pub strict_back : {X : Type 0} (cmp : X → X → Ordering) (xs ys : List X) → IsStrictlySortedBy cmp (xs ++ ys)
+    → IsStrictlySortedBy cmp ys
+unfolding IsStrictlySortedBy
+strict_back cmp [] ys s = s
+strict_back cmp (x ∷ xs) ys s = strict_back cmp xs ys s.1
+
+-- what stands before an element that isn't greater is less, and what stands behind one that is greater is greater
+pub less_through : {X : Type 0} (cmp : X → X → Ordering) → IsTotalOrder cmp → (x y n : X) → cmp x y ≡ Less
+    → is_gt (cmp y n) ≡ false → cmp x n ≡ Less
+less_through cmp o x y n l g = by_order (cmp y n) refl g
+  where
+    by_order : (r : Ordering) → cmp y n ≡ r → is_gt r ≡ false → cmp x n ≡ Less
+    by_order Less e g = o.trans x y n l e
+    by_order Equal e g =
+        o.antisymm x n ∙ (ap ordering_reverse (sym (o.congr y n x e)) ∙ (sym (o.antisymm x y) ∙ l))
+    by_order Greater e g = cc
+
+pub greater_through : {X : Type 0} (cmp : X → X → Ordering) → IsTotalOrder cmp → (n x y : X) → cmp x y ≡ Less
+    → cmp x n ≡ Greater → cmp y n ≡ Greater
+greater_through cmp o n x y l g =
+    o.antisymm y n ∙ ap ordering_reverse (o.trans n x y (less_back cmp o x n g) l)
 
 -- a list in strict order by a key is sorted by it
 pub strict_sorted : {X K : Type 0} (cmp : K → K → Ordering) → IsTotalOrder cmp → (f : X → K) (xs : List X)

@@ -1,5 +1,7 @@
 -- The groups of some combinations, as they are gathered.
-use Rattle.std.specs.Prelude.{ℕ, ◌≡◌, ◌++◌, ◌∷◌, [], Bool, true, false, List, All, length, map, filter}
+use Rattle.std.specs.Prelude.{ℕ, ◌≡◌, ◌<◌, ◌++◌, ◌∷◌, [], Bool, true, false, List, All, Vec, length, map, filter, take, drop}
+use Rattle.std.specs.List.{flat_map}
+use Rattle.std.specs.declared.alloc.Global.{Global}
 use Rattle.std.specs.List.Sorted.{IsStrictlySortedBy}
 use Rattle.std.specs.declared.cmp.Ordering.TheVariants.{Less, Equal, Greater}
 use Rattle.row_values.specs.Sorting.{heads, times}
@@ -23,6 +25,23 @@ pub record AreReadyFor (q : Statement) (tables : List (List (List Value))) (keys
 -- the first members of groups
 abbrev pub firsts : List Group → List (List ℕ)
 firsts groups = map (λ group. group.first) groups
+
+-- the groups of runs, one run behind the other
+abbrev pub groups_in : List (Vec Group Global) → List Group
+groups_in runs = flat_map (λ run. run.items) runs
+
+-- each run has a group
+abbrev pub AreRuns : List (Vec Group Global) → Type 0
+AreRuns runs = All (λ run. 0 < length run.items) runs
+
+-- all groups in the runs before an index are less than a combination, and all in the runs from another on are greater
+abbrev pub LiesBetween : List ReadyKey → List ℕ → List (Vec Group Global) → ℕ → ℕ → Type 0
+LiesBetween keys c runs low high =
+    (q : Statement) (tables : List (List (List Value)))
+    → ((a b : List ℕ) → keys_rank keys a b ≡ keys_order tables (group_keys q.groups) a b)
+    → IsStrictlySortedBy (keys_order tables (group_keys q.groups)) (firsts (groups_in runs))
+    → All (λ group. keys_rank keys group.first c ≡ Less) (groups_in (take low runs))
+    × All (λ group. keys_rank keys group.first c ≡ Greater) (groups_in (drop high runs))
 
 -- the groups of some combinations: the first combination of each, each once, with the tallies of what is in its group;
 -- and they are in the order of the GROUP BY values

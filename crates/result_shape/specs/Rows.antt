@@ -6,7 +6,7 @@ use Rattle.row_values.specs.declared.statement.Item.{Item}
 use Rattle.csv_tables.specs.StatementTables.{rows_in, tables_in}
 use Rattle.csv_tables.specs.Tables.{TableValue}
 use Rattle.statement_meaning.specs.Meaning.{Shown, shape_of, shown_row}
-use Rattle.result_shape.specs.Groups.{AreGroupsOf, AreReadyFor}
+use Rattle.result_shape.specs.Groups.{AreGroupsOf, AreReadyFor, AreRuns, groups_in}
 use Rattle.result_shape.specs.Tallies.{tallies_shown}
 use Rattle.result_shape.specs.declared.rows.Kept.{Kept}
 use Rattle.result_shape.specs.declared.rows.Kept.TheVariants.{Plain, Groups}
@@ -33,7 +33,8 @@ pub record StandsFor (q : Statement) (tables : List TableValue) (shaper : Shaper
   pub tables_are : tables_in shaper.tables.now ≡ tables
   pub ready : AreReadyFor q (rows_in tables) shaper.keys.items shaper.items.items
   pub combos : q.groups ≡ [] → shaper.combos.items ≡ h
-  pub groups : 0 < length q.groups → AreGroupsOf q (rows_in tables) h shaper.groups.items
+  pub groups : 0 < length q.groups → AreGroupsOf q (rows_in tables) h (groups_in shaper.runs.items)
+  pub runs : AreRuns shaper.runs.items
 
 -- the shaper stands for some combinations, fewer than 2 ^ 63
 abbrev pub IsStanding : Statement → Shaper → Type 0

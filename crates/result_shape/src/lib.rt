@@ -1,18 +1,16 @@
 //! The last step of a statement: combinations of row numbers become result rows and their lines.
 //!
 //! `finish` shapes a list of combinations, a `Shaper` takes them one at a time; `row_text` spells a
-//! row. `line_of_row` spells the row of a statement of one place without GROUP BY.
+//! row.
 #![tactic(auto)]
 
 mod groups;
-mod row_lines;
 mod row_texts;
 mod rows;
+mod runs;
 mod shaper;
-mod spelling;
 mod tallies;
 
-pub use row_lines::line_of_row;
 pub use row_texts::row_text;
 pub use rows::{ROW_LIMIT, Rows, RowsFault};
 pub use shaper::{Pushed, Shaper, finish};

@@ -11,13 +11,13 @@ ghost use Rattle.result_shape.specs.Rows.{rows_seen};
 ghost use Rattle.result_shape.specs.Tallies.{tallies_shown, tally_shown};
 
 use crate::rows::{Kept, Rows};
-use crate::spelling::{push_number, push_quoted, push_whole};
 use crate::tallies::{Tally, first_tally, ready_item};
 use csv_tables::Table;
 use plan_operators::{Cell, Combo, column_of};
 use row_values::{Item, OutOfMemory, Query, Words};
 use std::alloc::Global;
 use std::rc::Rc;
+use value_spelling::{push_number, push_quoted, push_whole};
 
 /// Adds a cell as it was read; one that isn't there shows as the empty text.
 fn push_read(text: &mut String, cell: Option<Cell<'_>>) -> Result<(), OutOfMemory>

@@ -18,8 +18,9 @@ ghost use Rattle.result_shape.specs.Groups.{AreGroupsOf, firsts};
 ghost use Rattle.result_shape.specs.Tallies.{IsReadyItem};
 ghost use Rattle.result_shape.specs.Rows.{IsPushed, IsShaped, IsStanding, StandsFor};
 
-use crate::groups::{Group, gather};
+use crate::groups::Group;
 use crate::rows::{Kept, ROW_LIMIT, Rows, RowsFault};
+use crate::runs::{gather, joined};
 use crate::tallies::{ReadyItem, ready_item};
 use csv_tables::Table;
 use plan_operators::{Combo, Combos, ReadyKey, ascending_keys, keys_order_of, ready_keys};
@@ -36,7 +37,7 @@ pub struct Shaper<'a> {
     keys: Vec<ReadyKey<'a>>,
     items: Vec<ReadyItem<'a>>,
     combos: Vec<Combo>,
-    groups: Vec<Group>,
+    runs: Vec<Vec<Group>>,
 }
 
 /// Whether a combination was taken.
@@ -89,7 +90,8 @@ fn sort_rows(
     combos: Vec<Combo>,
 ) -> Result<Vec<Combo>, OutOfMemory>
     ensures permutation { IfOk result (λ sorted. IsPermutation combos.items sorted.items) }
-    ensures in_order { IfOk result (λ sorted. Rises (is_earlier (rows_in (tables_in tables.now)) q.now.order) sorted.items) }
+    ensures in_order { IfOk result (λ sorted.
+        Rises (is_earlier (rows_in (tables_in tables.now)) q.now.order) sorted.items) }
 {
     let keys = ready_keys(alloc, tables, q.order())?;
     let mut sorted = combos;
@@ -117,7 +119,8 @@ fn sort_groups(
 ) -> Result<Vec<Group>, OutOfMemory>
     ensures permutation { IfOk result (λ sorted. IsPermutation groups.items sorted.items) }
     ensures in_order { IfOk result (λ sorted.
-        Rises (is_before (rows_in (tables_in tables.now)) (q.now.order ++ group_keys q.now.groups)) (firsts sorted.items)) }
+        Rises (is_before (rows_in (tables_in tables.now)) (q.now.order ++ group_keys q.now.groups))
+        (firsts sorted.items)) }
 {
     let all = keys_of_groups(alloc, q)?;
     let keys = ready_keys(alloc, tables, all.as_slice())?;
@@ -188,7 +191,7 @@ impl<'a> Shaper<'a> {
             keys,
             items,
             combos: Vec::new(alloc),
-            groups: Vec::new(alloc),
+            runs: Vec::new(alloc),
         })
     }
 
@@ -206,7 +209,7 @@ impl<'a> Shaper<'a> {
                 self.alloc,
                 self.keys.as_slice(),
                 self.items.as_slice(),
-                &mut self.groups,
+                &mut self.runs,
                 c,
             )?;
             return Ok(Pushed::More);
@@ -226,7 +229,8 @@ impl<'a> Shaper<'a> {
         if q.groups().is_empty() {
             return plain_rows(self.alloc, q, self.tables, self.combos);
         }
-        group_rows(self.alloc, q, self.tables, self.groups)
+        let groups = joined(self.alloc, self.runs)?;
+        group_rows(self.alloc, q, self.tables, groups)
     }
 }
 

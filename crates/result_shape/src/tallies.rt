@@ -183,7 +183,8 @@ pub(crate) fn first_tallies(
     c: &Combo,
 ) -> Result<Vec<Tally>, OutOfMemory>
     ensures { (tables : List (List (List Cells))) → All (IsReadyItem tables) items.now
-        → IfOk result (λ tallies. AreTalliesOf tables c.now (c.now ∷ []) (map (λ ready. ready.item) items.now) tallies.items) }
+        → IfOk result (λ tallies. AreTalliesOf tables c.now (c.now ∷ [])
+        (map (λ ready. ready.item) items.now) tallies.items) }
 {
     let mut tallies = Vec::with_capacity(alloc, items.len())?;
     for item in items {

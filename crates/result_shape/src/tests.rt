@@ -198,3 +198,80 @@ fn one_at_a_time(rt: HostRuntime) -> Result<(), Fail> {
     }
     Ok(())
 }
+
+#[test]
+fn a_million_rows_and_one_more(rt: HostRuntime) -> Result<(), Fail> {
+    let alloc = rt.alloc();
+    let tables = tables_of(alloc, &["v\n1\n"])?;
+    let q = statement_of(alloc, &tables, &[Item::Column(at(0, 0))], &[], &[])?;
+    for count in [1_000_000, 1_000_001] {
+        let mut list = Combos::new(alloc);
+        for _ in 0..count {
+            list.push(Combo::zeros(1))?;
+        }
+        match finish(alloc, &q, &tables, list) {
+            Ok(rows) => assert_eq!(rt;
+                (count, rows.len()),
+                (1_000_000, 1_000_000),
+                "as many as may be"
+            ),
+            Err(fault) => {
+                assert_eq!(rt;
+                    (count, fault),
+                    (1_000_001, RowsFault::TooManyRows),
+                    "one more"
+                )
+            }
+        }
+    }
+    Ok(())
+}
+
+/// The next of numbers in no order, below 2,147,483,647.
+fn next(number: u64) -> u64 {
+    number.wrapping_mul(48_271) % 2_147_483_647
+}
+
+#[test]
+fn many_groups_against_plain_counts(rt: HostRuntime) -> Result<(), Fail> {
+    let alloc = rt.alloc();
+    let mut text = String::new(alloc);
+    text.push_str("g,n\n")?;
+    let (mut counts, mut sums) = ([0_i64; 600], [0_i64; 600]);
+    let mut seed = 1;
+    let mut list = Combos::new(alloc);
+    for row in 0..2_000 {
+        seed = next(seed);
+        let group = (seed % 600) as usize;
+        seed = next(seed);
+        let number = (seed % 1_000) as i64 - 500;
+        write!(text, "{group},{number}\n")?;
+        counts[group] = counts[group].wrapping_add(1);
+        sums[group] = sums[group].wrapping_add(number);
+        let Some(combo) = Combo::of(&[row]) else {
+            return Err(OutOfMemory.into());
+        };
+        list.push(combo)?;
+    }
+    let mut want = String::new(alloc);
+    for group in 0..600 {
+        if counts[group] > 0 {
+            let (count, sum) = (counts[group], sums[group]);
+            if !want.is_empty() {
+                want.push_str("; ")?;
+            }
+            write!(want, "row {group},{count},{sum}")?;
+        }
+    }
+    let tables = tables_of(alloc, &[text.as_str()])?;
+    let items = [Item::Column(at(0, 0)), Item::CountAll, Item::Sum(at(0, 1))];
+    let q = statement_of(alloc, &tables, &items, &[at(0, 0)], &[])?;
+    match finish(alloc, &q, &tables, list) {
+        Ok(rows) => {
+            let lines = text_of(alloc, &q, &rows)?;
+            assert_eq!(rt; lines.as_str(), want.as_str(), "a row for each group");
+        }
+        Err(fault) => assert_eq!(rt; fault, RowsFault::Memory, "a row for each group"),
+    }
+    Ok(())
+}

@@ -1,48 +1,39 @@
 -- The ends of a run, and what the rows of a scan mean.
-use Rattle.std.proofs.Common.{ℕ, ◌≡◌, ◌≤◌, ◌<◌, ◌+◌, ◌∙◌, List, [], ◌∷◌, length, map, nat_le, true, false, Option, Some, None, Result, Ok, Err, MatchOption, ap, sym, refl, arith}
+use Rattle.std.proofs.Common.{ℕ, ◌≡◌, ◌≤◌, ◌<◌, ◌+◌, ◌∙◌, List, [], length, map, nat_le, true, false, Option, Some, None, Result, Ok, Err}
+use Rattle.std.proofs.Common.{MatchOption, ap, subst, sym, refl, arith}
 use Rattle.std.specs.List.{slice_get}
-use Rattle.std.specs.Option.{option_map, option_map_or}
+use Rattle.std.specs.Option.{option_map}
 use Rattle.std.proofs.lemmas.Bool.Decides.{nat_tests}
-use Rattle.std.proofs.lemmas.List.{length-map}
 use Rattle.row_values.specs.Statements.{Statement, IsSoundQuery, kinds_of}
 use Rattle.row_values.specs.declared.refusals.Refusal.{Refusal}
-use Rattle.row_values.specs.declared.statement.Place.{Place}
 use Rattle.row_values.specs.declared.values.Value.{Value}
 use Rattle.row_values.proofs.Parameters.{length-kinds_of}
-use Rattle.csv_tables.specs.Tables.{TableValue}
-use Rattle.statement_meaning.specs.Combinations.{kept_combinations}
-use Rattle.statement_meaning.specs.Meaning.{Shown, shown_row, meaning_of}
+use Rattle.row_values.specs.Sorting.{in_order}
+use Rattle.statement_meaning.specs.Combinations.{kept_combinations, world_of}
+use Rattle.statement_meaning.specs.Meaning.{Shown, is_lower, meaning_of, rows_shown, shape_of}
 use Rattle.statement_meaning.specs.Spelling.{row_line}
-use Rattle.statement_meaning.proofs.Plain.{plain_rows_of_one}
+use Rattle.statement_meaning.proofs.KeptOrder.{in_order-kept}
 use Rattle.script_report.specs.declared.replies.Execution.{Execution}
 use Rattle.script_report.specs.declared.replies.Reply.{Reply}
 use Rattle.script_report.specs.declared.replies.Reply.TheVariants as reply
-use Rattle.catalog_model.specs.Catalogs.{Catalog, TableState, StatementState, find_table, rows_named}
+use Rattle.catalog_model.specs.Catalogs.{Catalog, StatementState}
 use Rattle.row_values.specs.Refusals.{refusal}
 use Rattle.catalog_model.specs.Instances.{Instance, instance_of}
 use Rattle.session_model.specs.Executions.{is_built, refusal_of_rows, execution_refusal, scan_execution}
 use Rattle.session_model.specs.State.{State}
 use Rattle.session_model.specs.Step.{RunStep, InstanceStep, Refuses, present_tables}
-use Rattle.session_model.proofs.Executed.{built, shown}
+use Rattle.session_model.proofs.Executed.{shown}
 use Rattle.session_store.specs.Outcomes.{Instantiates}
 use Rattle.session_store.specs.declared.instances.Instance as stored
 use Rattle.session_engine.specs.Executed.{Executed, Ran}
 
 -- Rows.
 
-abbrev shown_at : List (List Value) → Statement → ℕ → List Shown
-shown_at rows q row = shown_row (rows ∷ []) q.items ((row ∷ []) ∷ []) (row ∷ [])
-
-means : (q : Statement) (rows : List (List Value)) (args : List Value) (numbers : List ℕ) → is_built q ≡ true
-    → map (λ row. row ∷ []) numbers ≡ kept_combinations q (rows ∷ []) args
-    → meaning_of q (rows ∷ []) args ≡ map (shown_at rows q) numbers
-means q rows args numbers b k = let p = built q b in
-    plain_rows_of_one q (rows ∷ []) args numbers p.no_groups p.no_order k
-
-counted : (q : Statement) (rows : List (List Value)) (args : List Value) (numbers : List ℕ) → is_built q ≡ true
-    → map (λ row. row ∷ []) numbers ≡ kept_combinations q (rows ∷ []) args
-    → length (meaning_of q (rows ∷ []) args) ≡ length numbers
-counted q rows args numbers b k = ap length (means q rows args numbers b k) ∙ length-map numbers (shown_at rows q)
+-- the shape of the kept combinations, in whatever order they come, is what the statement means
+means : (q : Statement) (tables : List (List (List Value))) (args : List Value) (combos : List (List ℕ))
+    → in_order is_lower combos ≡ kept_combinations q tables args → shape_of q tables combos ≡ meaning_of q tables args
+means q tables args combos k =
+    ap (rows_shown tables q.items q.groups q.order) (k ∙ sym (in_order-kept (world_of q tables args)))
 
 above : (a b : ℕ) → b < a → nat_le a b ≡ false
 above a b h = grind (arith, nat_tests)
@@ -50,29 +41,24 @@ above a b h = grind (arith, nat_tests)
 within : (a b : ℕ) → a ≤ b → nat_le a b ≡ true
 within a b h = grind (arith, nat_tests)
 
-pub too_many : (number : ℕ) (name : List ℕ) (q : Statement) (rows : List (List Value)) (args : List Value)
-    (numbers : List ℕ) → is_built q ≡ true → map (λ row. row ∷ []) numbers ≡ kept_combinations q (rows ∷ []) args
-    → 1000000 < length numbers → Executed number name q (rows ∷ []) args None
-too_many number name q rows args numbers b k many = let e = counted q rows args numbers b k in
-    above _ 1000000 (omega arith)
+pub too_many : (number : ℕ) (name : List ℕ) (q : Statement) (tables : List (List (List Value))) (args : List Value)
+    (combos : List (List ℕ)) → in_order is_lower combos ≡ kept_combinations q tables args
+    → 1000000 < length (shape_of q tables combos) → Executed number name q tables args None
+too_many number name q tables args combos k many =
+    above _ 1000000
+    (subst (λ (rows : List (List Shown)). 1000000 < length rows) (means q tables args combos k) many)
 
-map_twice : (f : List Shown → List ℕ) (g : ℕ → List Shown) (xs : List ℕ) → map (λ x. f (g x)) xs ≡ map f (map g xs)
-map_twice f g [] = refl
-map_twice f g (x ∷ xs) = ap (λ (ys : List (List ℕ)). f (g x) ∷ ys) (map_twice f g xs)
-
-pub executed : (number : ℕ) (name : List ℕ) (q : Statement) (rows : List (List Value)) (args : List Value)
-    (numbers : List ℕ) (e : Execution) (lines : List (List ℕ)) → is_built q ≡ true
-    → map (λ row. row ∷ []) numbers ≡ kept_combinations q (rows ∷ []) args → length numbers ≤ 1000000 →
-    e ≡ scan_execution number name q (rows ∷ []) args
-    → lines ≡ map (λ row. row_line (shown_row (rows ∷ []) q.items ((row ∷ []) ∷ []) (row ∷ []))) numbers
-    → Executed number name q (rows ∷ []) args (Some (e, lines))
-executed number name q rows args numbers e lines b k small h l =
-    let n = counted q rows args numbers b k in
+pub executed : (number : ℕ) (name : List ℕ) (q : Statement) (tables : List (List (List Value))) (args : List Value)
+    (combos : List (List ℕ)) (rows : List (List Shown)) (e : Execution) (lines : List (List ℕ)) → is_built q ≡ true
+    → in_order is_lower combos ≡ kept_combinations q tables args → rows ≡ shape_of q tables combos
+    → length rows ≤ 1000000 → e ≡ scan_execution number name q tables args → lines ≡ map row_line rows
+    → Executed number name q tables args (Some (e, lines))
+executed number name q tables args combos rows e lines b k shape small h l =
+    let meant : rows ≡ meaning_of q tables args = shape ∙ means q tables args combos k in
     record {
-      few = within _ 1000000 (omega arith);
-      shows = rw h (shown number name q (rows ∷ []) args b);
-      rows = l ∙ (map_twice row_line (shown_at rows q) numbers
-          ∙ sym (ap (map row_line) (means q rows args numbers b k)));
+      few = within _ 1000000 (subst (λ (some : List (List Shown)). length some ≤ 1000000) meant small);
+      shows = rw h (shown number name q tables args b);
+      rows = l ∙ ap (map row_line) meant;
     }
 
 -- Parameters.
@@ -145,24 +131,3 @@ same_instance wanted catalog found q args h e =
     let some : Some h.0 ≡ Some q = sym h.2.1 ∙ e in
     let same : h.0 ≡ q = cc in
     h.1 ∙ ap (λ (p : Statement). let i : Instance = record { statement = p; args = args } in Ok i) same
-
--- the one place's table, as the store tells it
-pub one_table : {A : Type 0} (value : A → TableValue) (ts : List TableState) (places : List Place) (items : List A)
-    (x : A) → length places ≡ 1 → map (λ t. Some (value t)) items ≡ map (λ place. find_table ts place.table) places
-    → slice_get items 0 ≡ Some x →
-    map (λ place. rows_named ts place.table) places ≡ (value x).rows ∷ []
-one_table value ts [] items x one same there = absurd (omega arith)
-one_table value ts (place ∷ []) [] x one same there = absurd cc
-one_table {A = A} value ts (place ∷ []) (y ∷ ys) x one same there =
-    let e : y ≡ x = cc in
-    let h : Some (value y) ≡ find_table ts place.table = cc in
-    ap (λ (o : Option TableValue). option_map_or (λ t. t.rows) o [] ∷ []) (sym h)
-    ∙ ap (λ (t : A). (value t).rows ∷ []) e
-one_table value ts (place ∷ (other ∷ places)) items x one same there = absurd (omega arith)
-
-pub some_table : {A : Type 0} (value : A → TableValue) (ts : List TableState) (places : List Place) (items : List A)
-    → length places ≡ 1 → map (λ t. Some (value t)) items ≡ map (λ place. find_table ts place.table) places
-    → slice_get items 0 ≡ None → ⊥
-some_table value ts [] items one same there = omega arith
-some_table value ts (place ∷ places) [] one same there = cc
-some_table value ts (place ∷ places) (y ∷ ys) one same there = cc

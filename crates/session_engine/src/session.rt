@@ -122,10 +122,7 @@ impl Session {
             return Ok(refused(self.alloc, NOT_BUILT));
         }
         let tables = self.store.tables_of(instance.statement)?;
-        let Some(table) = tables.first() else {
-            unreachable!()
-        };
-        match execute(self.alloc, self.executions + 1, name, q, table, args)? {
+        match execute(self.alloc, self.executions + 1, name, q, &tables, args)? {
             None => Ok(refused(self.alloc, TOO_MANY_ROWS)),
             Some((execution, rows)) => {
                 self.executions += 1;

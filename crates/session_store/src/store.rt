@@ -2,7 +2,8 @@
 ghost use Rattle.std.specs.Prelude.{◌≡◌, ◌<◌, [], length, map, slice_get, IfOk, IfSome, IfNone, All, Some, None, ℕ};
 ghost use Rattle.std.specs.Option.{option_map};
 ghost use Rattle.row_values.specs.Statements.{Statement as Bound};
-ghost use Rattle.catalog_model.specs.Catalogs.{empty_catalog, find_statement, find_table};
+ghost use Rattle.csv_tables.specs.StatementTables.{AreTablesOf, rows_in, tables_in};
+ghost use Rattle.catalog_model.specs.Catalogs.{empty_catalog, find_statement, find_table, tables_of};
 ghost use Rattle.catalog_model.specs.Sound.{IsCatalog, IsLoaded};
 ghost use Rattle.session_store.specs.Kept.{reads_table};
 
@@ -134,10 +135,12 @@ impl Store {
     /// The present table of each place of the statement of this number, in FROM order.
     pub fn tables_of(&self, statement: u32) -> Result<Vec<Rc<Table>>, OutOfMemory>
         requires { statement < length self.now.statements }
-        ensures { IfOk result (λ tables. (q : Bound)
+        ensures rows { IfOk result (λ tables. (q : Bound)
             → option_map (λ s. s.statement) (slice_get self.now.statements statement) ≡ Some q
-            → map (λ table. Some table.value) tables.items
-            ≡ map (λ place. find_table self.now.tables place.table) q.places) }
+            → rows_in (tables_in tables.items) ≡ tables_of self.now.tables q) }
+        ensures columns { IfOk result (λ tables. (q : Bound)
+            → option_map (λ s. s.statement) (slice_get self.now.statements statement) ≡ Some q
+            → AreTablesOf q (tables_in tables.items)) }
     {
         let tables = self.tables_of_places(self.query(statement).places())?;
         Ok(tables)

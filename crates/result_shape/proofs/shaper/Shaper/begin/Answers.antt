@@ -1,6 +1,10 @@
-use Rattle.std.proofs.Common.{[], refl, sym, subst, ◌∙◌}
+use Rattle.std.proofs.Common.{◌<◌, List, [], length, refl, sym, subst, ◌∙◌}
+use Rattle.std.specs.Prelude.{Vec}
+use Rattle.std.specs.declared.alloc.Global.{Global}
+use Rattle.std.proofs.lemmas.List.Elements.{All-nil}
 use Rattle.csv_tables.specs.StatementTables.{rows_in, tables_in}
-use Rattle.result_shape.specs.Groups.{AreGroupsOf}
+use Rattle.result_shape.specs.Groups.{AreGroupsOf, AreRuns, groups_in}
+use Rattle.result_shape.specs.declared.groups.Group.{Group}
 use Rattle.result_shape.proofs.GrowingGroups.{no_groups}
 use Rattle.result_shape.proofs.shaper.Shaper.begin.Goals as goal
 
@@ -15,6 +19,10 @@ returns c = record {
   };
   combos = λ e. c.new.ensures.items;
   groups =
-      λ l. subst (AreGroupsOf c.args.q.now (rows_in (tables_in c.args.tables.now)) []) (sym c.new-2.ensures.items)
+      λ l. subst (λ (runs : List (Vec Group Global)).
+      AreGroupsOf c.args.q.now (rows_in (tables_in c.args.tables.now)) [] (groups_in runs)) (sym c.new-2.ensures.items)
       (no_groups (rows_in (tables_in c.args.tables.now)) c.args.q.now);
+  runs =
+      subst (λ (runs : List (Vec Group Global)). AreRuns runs) (sym c.new-2.ensures.items)
+      (All-nil (λ (run : Vec Group Global). 0 < length run.items));
 }

@@ -1,6 +1,6 @@
-use Rattle.std.proofs.Common.{◌≡◌, ◌≤◌, ◌<◌, ◌∙◌, Err, List, ap, arith, is_some, length, refl, sym, true, false}
+use Rattle.std.proofs.Common.{◌≡◌, ◌∙◌, Err, ap, arith, length, refl, sym}
 use Rattle.row_values.specs.Names.{canonical_name}
-use Rattle.catalog_model.specs.Catalogs.{Catalog, StatementState, find_statement}
+use Rattle.catalog_model.specs.Catalogs.{Catalog}
 use Rattle.catalog_model.proofs.Bindings.{bound_loaded}
 use Rattle.catalog_model.proofs.Preparations.{none_of}
 use Rattle.session_store.proofs.Entries.{length-statements_in}

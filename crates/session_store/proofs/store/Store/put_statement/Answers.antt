@@ -1,11 +1,7 @@
-use Rattle.std.proofs.Common.{ℕ, ◌≡◌, ◌∙◌, ◌++◌, ◌∷◌, [], None, List, ap, subst, sym}
-use Rattle.std.specs.Str.{bytes_eq}
-use Rattle.indexmap.specs.IndexMap.{insert_entry}
-use Rattle.catalog_model.specs.Catalogs.{Catalog, StatementState, find_statement, with_statement}
-use Rattle.catalog_model.proofs.Names.{new_statement}
+use Rattle.std.proofs.Common.{[], subst, sym}
+use Rattle.catalog_model.specs.Catalogs.{Catalog}
 use Rattle.catalog_model.proofs.Preparations.{kept}
-use Rattle.session_store.specs.Kept.{IsKept, catalog_in, statements_in, tables_in}
-use Rattle.session_store.proofs.Entries.{statement_last}
+use Rattle.session_store.specs.Kept.{IsKept}
 use Rattle.session_store.proofs.Preparations.{catalog_behind}
 use Rattle.session_store.proofs.store.Store.put_statement.Goals as goal
 

@@ -1,6 +1,5 @@
 //! Cells as a row line shows them, worked out by hand.
 use super::*;
-use row_values::Words;
 use std::test::Fail;
 
 #[test]
@@ -12,9 +11,8 @@ fn numbers_are_decimal(rt: HostRuntime) -> Result<(), Fail> {
         ("the greatest", i64::MAX, "9223372036854775807"),
     ];
     for (what, number, want) in cases {
-        let value = Value::Int(number);
         let mut text = String::new(rt.alloc());
-        push_cell(&mut text, Some(&value))?;
+        push_number(&mut text, number)?;
         assert_eq!(rt; text.as_str(), want, "{what}");
     }
     Ok(())
@@ -37,9 +35,8 @@ fn texts_are_quoted(rt: HostRuntime) -> Result<(), Fail> {
         ("letters of two and three bytes", "ä\t€", "\"ä\\x09€\""),
     ];
     for (what, words, want) in cases {
-        let value = Value::Text(Words::of(rt.alloc(), words)?);
         let mut text = String::new(rt.alloc());
-        push_cell(&mut text, Some(&value))?;
+        push_quoted(&mut text, words)?;
         assert_eq!(rt; text.as_str(), want, "{what}");
     }
     Ok(())

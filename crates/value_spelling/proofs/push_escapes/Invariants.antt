@@ -2,7 +2,7 @@ use Rattle.std.proofs.Common.{◌≡◌, ◌≤◌, ◌++◌, take, drop, string
 use Rattle.std.specs.List.{flat_map}
 use Rattle.std.specs.Str.{IsCharBoundary}
 use Rattle.statement_meaning.specs.Spelling.{escaped}
-use Rattle.result_shape.proofs.spelling.push_escapes.Given as goal
+use Rattle.value_spelling.proofs.push_escapes.Given as goal
 
 -- what is written, and the piece that waits to be copied
 abbrev pub invariant-loop-i : goal.invariant-loop-i

@@ -11,7 +11,7 @@ use Rattle.std.proofs.Math.Seq.{take-suc}
 use Rattle.std.proofs.lemmas.List.{drop-take, drop-append-le, take_all, drop_all, length-take}
 use Rattle.std.proofs.lemmas.List.Concat.{flat_map-append}
 use Rattle.statement_meaning.specs.Spelling.{escaped}
-use Rattle.result_shape.specs.Items.{needs_escape}
+use Rattle.value_spelling.specs.Escapes.{needs_escape}
 
 -- a byte that needs no escape stands for itself
 pub as_it_is : (byte : ℕ) → needs_escape byte ≡ false → escaped byte ≡ byte ∷ []

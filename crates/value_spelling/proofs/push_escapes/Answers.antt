@@ -1,11 +1,11 @@
 use Rattle.std.proofs.Common.{◌≡◌, ◌<◌, ◌+◌, ◌-◌, ◌++◌, ℕ, List, length, take, drop, get_or, string_bytes, refl, arith}
 use Rattle.std.proofs.Common.{ap, sym, ◌∙◌}
 use Rattle.statement_meaning.specs.Spelling.{escaped}
-use Rattle.result_shape.specs.Items.{needs_escape}
-use Rattle.result_shape.proofs.Escapes.{waits, copied, first_cut, next_cut}
-use Rattle.result_shape.proofs.spelling.push_escapes.Goals as goal
-use Rattle.result_shape.proofs.spelling.push_escapes.Goals.{then-is_escaped+in_ok-push_str+in_ok-push_escaped}
-use Rattle.result_shape.proofs.spelling.push_escapes.Goals.{else-is_escaped}
+use Rattle.value_spelling.specs.Escapes.{needs_escape}
+use Rattle.value_spelling.proofs.Escapes.{waits, copied, first_cut, next_cut}
+use Rattle.value_spelling.proofs.push_escapes.Goals as goal
+use Rattle.value_spelling.proofs.push_escapes.Goals.{then-is_escaped+in_ok-push_str+in_ok-push_escaped}
+use Rattle.value_spelling.proofs.push_escapes.Goals.{else-is_escaped}
 
 pub loop-i-init : goal.loop-i-init
 loop-i-init c = record { behind = omega arith; cut = first_cut c.args.words.now c.utf8.words; so_far = refl }

@@ -1,16 +1,17 @@
 //! How a value stands in a row line: a number in decimal, a text between double quotes.
 //!
 //! In a text `"` and `\` have a `\` before them, and control bytes are written `\x` and two
-//! hexadecimal digits; what
-//! needs no escape is copied in one piece. Each function adds at the end of a text that grows.
-ghost use Rattle.std.specs.Prelude.{◌≡◌, ◌<◌, ◌++◌, false, OnOk, IsTrue, string_bytes, option_map};
+//! hexadecimal digits; what needs no escape is copied in one piece. Each function adds at the end of
+//! a text that grows.
+#![tactic(auto)]
+
+ghost use Rattle.std.specs.Prelude.{◌≡◌, ◌<◌, ◌++◌, false, OnOk, IsTrue, string_bytes};
 ghost use Rattle.std.specs.List.{flat_map};
 ghost use Rattle.std.specs.Fmt.{signed_decimal, digit_glyph};
-ghost use Rattle.statement_meaning.specs.Meaning.{shown_cell};
-ghost use Rattle.statement_meaning.specs.Spelling.{escaped, quoted, item_text};
-ghost use Rattle.result_shape.specs.Items.{needs_escape};
+ghost use Rattle.statement_meaning.specs.Spelling.{escaped, quoted};
+ghost use Rattle.value_spelling.specs.Escapes.{needs_escape};
 
-use row_values::{OutOfMemory, Value};
+use row_values::OutOfMemory;
 
 /// Whether a byte of a text stands for itself only behind a `\`.
 fn is_escaped(byte: u8) -> bool
@@ -88,18 +89,6 @@ pub fn push_whole(text: &mut String, number: i128) -> Result<(), OutOfMemory>
 {
     write!(text, "{number}")?;
     Ok(())
-}
-
-/// Adds a cell as a row line shows it; one that isn't there shows as the empty text.
-pub fn push_cell(text: &mut String, cell: Option<&Value>) -> Result<(), OutOfMemory>
-    ensures { OnOk result (string_bytes text.new
-        ≡ string_bytes text.old ++ item_text (shown_cell (option_map (λ value. value.now) cell.entry))) }
-{
-    match cell {
-        Some(Value::Int(number)) => push_number(text, *number),
-        Some(Value::Text(words)) => push_quoted(text, words.as_str()),
-        None => push_quoted(text, ""),
-    }
 }
 
 #[cfg(test)]
