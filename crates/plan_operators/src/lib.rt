@@ -24,4 +24,3 @@ pub use columns::{Cell, ColumnCells, PlaceColumn, are_equal, column_of, order_of
 pub use combos::{Combo, Combos};
 pub use keys::{ReadyKey, ascending_keys, keys_order_of, ready_key, ready_keys};
 pub use plan::run_plan;
-pub use seq_scan::scan;

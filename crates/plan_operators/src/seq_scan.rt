@@ -2,9 +2,8 @@
 //!
 //! The operands are looked up once, before the first row; a column of whole numbers is read from
 //! its packed list. The way in is `seq_scan`.
-ghost use Rattle.std.specs.Prelude.{◌≡◌, ◌∷◌, [], IfOk, length, map, filter};
+ghost use Rattle.std.specs.Prelude.{◌≡◌, IfOk, length, filter};
 ghost use Rattle.row_values.specs.RowNumbers.{row_numbers};
-ghost use Rattle.statement_meaning.specs.Combinations.{kept_combinations};
 ghost use Rattle.row_tests.specs.Ready.{all_hold};
 ghost use Rattle.statement_meaning.specs.PartialCombinations.{RowsOnce};
 ghost use Rattle.plan_operators.specs.Sources.{world_read};
@@ -12,7 +11,7 @@ ghost use Rattle.plan_operators.specs.Sources.{world_read};
 use crate::source::{Source, table_of};
 use csv_tables::Table;
 use row_tests::{Ready, passes, ready_preds};
-use row_values::{OutOfMemory, Query, Value};
+use row_values::{OutOfMemory, Value};
 use std::alloc::Global;
 
 /// The numbers of the rows that meet all of these, rising.
@@ -51,20 +50,4 @@ pub(crate) fn seq_scan(
         }
         None => Ok(Vec::new(alloc)),
     }
-}
-
-/// The numbers of the rows that a statement of one place keeps, rising: its kept combinations.
-pub fn scan(
-    alloc: Global,
-    q: &Query,
-    table: &Table,
-    args: &[Value],
-) -> Result<Vec<u32>, OutOfMemory>
-    requires { length q.now.places ≡ 1 }
-    ensures { IfOk result (λ rows. map (λ row. row ∷ []) rows.items
-        ≡ kept_combinations q.now (table.now.rows ∷ []) args.now) }
-{
-    let ready = ready_preds(alloc, q.preds(), table, args, 0)?;
-    let rows = passing_rows(alloc, table, args, ready.as_slice())?;
-    Ok(rows)
 }
