@@ -1,0 +1,15 @@
+use Rattle.std.proofs.Common.{arith}
+use Rattle.cache_model.proofs.GreaterProducts.{grown_fits, shrunk_fits}
+use Rattle.certificate_check.proofs.reuses.passes_by_selectivity.Goals as goal
+
+pub grown-up-requires-clause-fits : goal.grown-up-requires-clause-fits
+grown-up-requires-clause-fits c =
+    let fits = grown_fits c.args.s.now c.args.entry.now.at c.requires.entry_numbers in
+    let near = c.requires.near in
+    rw c.as_slice.ensures (omega arith)
+
+pub grown-down-requires-clause-fits : goal.grown-down-requires-clause-fits
+grown-down-requires-clause-fits c =
+    let fits = shrunk_fits c.args.s.now c.args.entry.now.at c.requires.numbers in
+    let near = c.requires.near in
+    rw c.as_slice-2.ensures (omega arith)

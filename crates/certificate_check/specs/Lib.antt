@@ -1,0 +1,4 @@
+pub mod Bounds
+pub mod Headline
+pub mod Ledgers
+pub mod Verdicts
