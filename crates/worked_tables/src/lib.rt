@@ -18,3 +18,6 @@ pub use faults::WorkedFault;
 pub use statement::{Counts, WorkedStatement};
 pub use tables::WorkedTables;
 pub use texts::numbers;
+
+#[cfg(test)]
+mod tests;
