@@ -18,7 +18,7 @@ use row_values::OutOfMemory;
 use std::alloc::Global;
 
 /// The rows that an access reads: those of its place that meet the predicates on it.
-pub(crate) fn access_rows(
+pub fn access_rows(
     alloc: Global,
     source: &Source<'_>,
     access: Access,

@@ -109,7 +109,7 @@ impl Combo {
 
     /// Two combinations made one: the rows of the first at the places of its set, else the second's.
     #[inline]
-    pub(crate) fn merge(set: u8, first: Combo, second: Combo) -> Combo
+    pub fn merge(set: u8, first: Combo, second: Combo) -> Combo
         requires { length first ≡ length second }
         ensures { result ≡ merged (has set) first second }
     {

@@ -24,9 +24,9 @@ use std::rc::Rc;
 
 /// The two columns of an edge.
 #[derive(Clone, Copy)]
-pub(crate) struct ReadyEdge<'a> {
-    pub(crate) left: PlaceColumn<'a>,
-    pub(crate) right: PlaceColumn<'a>,
+pub struct ReadyEdge<'a> {
+    pub left: PlaceColumn<'a>,
+    pub right: PlaceColumn<'a>,
 }
 
 /// Whether the edge joins a place of one set to a place of the other.
@@ -38,7 +38,7 @@ fn is_between_sets(outer: u8, inner: u8, edge: Edge) -> bool
 }
 
 /// The column of the edge that is of a place of this set, where just one is.
-pub(crate) fn end_of(set: u8, edge: Edge) -> ColRef
+pub fn end_of(set: u8, edge: Edge) -> ColRef
     ensures { result ≡ end_in (has set) edge }
 {
     if has_place(set, edge.left.place) {
@@ -49,7 +49,7 @@ pub(crate) fn end_of(set: u8, edge: Edge) -> ColRef
 }
 
 /// The edge of this number.
-pub(crate) fn edge_of(q: &Query, edge: u8) -> Edge
+pub fn edge_of(q: &Query, edge: u8) -> Edge
     requires { IsSome (slice_get q.now.edges edge) }
     ensures { slice_get q.now.edges edge ≡ Some result }
 {
@@ -69,7 +69,7 @@ fn ready_edge<'a>(tables: &'a [Rc<Table>], edge: Edge) -> ReadyEdge<'a>
 }
 
 /// The edges between two sets of places, ready for combinations over both.
-pub(crate) fn edges_between<'a>(
+pub fn edges_between<'a>(
     alloc: Global,
     source: &Source<'a>,
     outer: u8,
@@ -90,7 +90,7 @@ pub(crate) fn edges_between<'a>(
 
 /// Whether a combination meets all of these edges.
 #[inline]
-pub(crate) fn meets_all(edges: &[ReadyEdge<'_>], combo: &Combo) -> bool
+pub fn meets_all(edges: &[ReadyEdge<'_>], combo: &Combo) -> bool
     ensures { result ≡ all_meet edges.now combo.now }
 {
     for edge in edges {

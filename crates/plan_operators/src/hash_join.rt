@@ -26,10 +26,10 @@ use std::alloc::Global;
 
 /// The build side: its combinations in the order of their keys, and the keys beside them.
 #[derive(Drop)]
-struct BuildSide<'a> {
-    column: PlaceColumn<'a>,
-    keys: Vec<Option<Cell<'a>>>,
-    combos: Vec<Combo>,
+pub struct BuildSide<'a> {
+    pub column: PlaceColumn<'a>,
+    pub keys: Vec<Option<Cell<'a>>>,
+    pub combos: Vec<Combo>,
 }
 
 /// The keys of these combinations.
@@ -56,7 +56,7 @@ fn sort_by_key(column: &PlaceColumn<'_>, combos: &mut Vec<Combo>)
 }
 
 /// The build side of these combinations, by their keys in this column.
-fn build_side<'a>(
+pub fn build_side<'a>(
     alloc: Global,
     column: PlaceColumn<'a>,
     combos: Vec<Combo>,
@@ -77,7 +77,7 @@ fn build_side<'a>(
 
 /// Whether a key lies below another.
 #[inline]
-fn lies_below(one: Option<Cell<'_>>, key: Option<Cell<'_>>) -> bool
+pub fn lies_below(one: Option<Cell<'_>>, key: Option<Cell<'_>>) -> bool
     ensures { result ≡ not (is_ge (cell_order (option_map value_read one.entry) (option_map value_read key.entry))) }
 {
     order_of(one, key).is_lt()
@@ -85,7 +85,7 @@ fn lies_below(one: Option<Cell<'_>>, key: Option<Cell<'_>>) -> bool
 
 /// Whether a key doesn't lie above another.
 #[inline]
-fn lies_up_to(one: Option<Cell<'_>>, key: Option<Cell<'_>>) -> bool
+pub fn lies_up_to(one: Option<Cell<'_>>, key: Option<Cell<'_>>) -> bool
     ensures { result ≡ is_le (cell_order (option_map value_read one.entry) (option_map value_read key.entry)) }
 {
     order_of(one, key).is_le()

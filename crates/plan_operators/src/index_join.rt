@@ -43,7 +43,7 @@ pub(crate) struct Probe<'a> {
 }
 
 /// The rows whose cell in the index's column equals a value, in the order of the index.
-fn rows_equal<'i>(index: &'i Index, table: &Table, value: &Value) -> &'i [u32]
+pub fn rows_equal<'i>(index: &'i Index, table: &Table, value: &Value) -> &'i [u32]
     requires { IsBuilt table.now index.now.column index.now }
     ensures { result.now
         ≡ filter (λ row. compares is_eq (Some value.now) (cell_at table.now row index.now.column)) index.now.rows }

@@ -25,7 +25,7 @@ use std::alloc::Global;
 use table_index::{Index, index_of};
 
 /// The table of a place that is there.
-pub(crate) fn table_there<'a>(source: &Source<'a>, place: u8) -> &'a Table
+pub fn table_there<'a>(source: &Source<'a>, place: u8) -> &'a Table
     requires sound { IsSource source.now }
     requires there { place < length source.now.q.now.places }
     ensures { slice_get (tables_in source.now.tables.now) place ≡ Some result.now }
@@ -34,7 +34,7 @@ pub(crate) fn table_there<'a>(source: &Source<'a>, place: u8) -> &'a Table
 }
 
 /// The index over a column that has one.
-pub(crate) fn index_there<'a>(source: &Source<'a>, place: u8, column: u8) -> &'a Index
+pub fn index_there<'a>(source: &Source<'a>, place: u8, column: u8) -> &'a Index
     requires { IsTrue (has_index (masks_read source.now) place column) }
     ensures { index_at source.now.q.now.places (indexes_in source.now.indexes.now) place column ≡ Some result.now }
 {
@@ -60,7 +60,7 @@ fn push_passing(
 }
 
 /// The test of the predicate of this number.
-fn test_of(q: &Query, pred: u8) -> &Test
+pub fn test_of(q: &Query, pred: u8) -> &Test
     requires { IsSome (slice_get q.now.preds pred) }
     ensures { option_map (λ p. p.test) (slice_get q.now.preds pred) ≡ Some result.now }
 {

@@ -88,10 +88,7 @@ pub fn ascending_keys(alloc: Global, columns: &[ColRef]) -> Result<Vec<OrderKey>
 }
 
 /// The keys of the wanted order, ready.
-pub(crate) fn wanted_keys<'a>(
-    alloc: Global,
-    source: &Source<'a>,
-) -> Result<Vec<ReadyKey<'a>>, OutOfMemory>
+pub fn wanted_keys<'a>(alloc: Global, source: &Source<'a>) -> Result<Vec<ReadyKey<'a>>, OutOfMemory>
     ensures { IfOk result (λ ready. (a b : List ℕ) → keys_rank ready.items a b
         ≡ keys_order (rows_read source.now) (wanted_order source.now.q.now) a b) }
 {

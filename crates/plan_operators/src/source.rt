@@ -12,11 +12,11 @@ use table_index::Index;
 /// A statement with arguments over the tables of its places, and the indexes of these: one entry
 /// for each place and column, place by place.
 #[derive(Clone, Copy)]
-pub(crate) struct Source<'a> {
-    pub(crate) q: &'a Query,
-    pub(crate) tables: &'a [Rc<Table>],
-    pub(crate) indexes: &'a [Option<Rc<Index>>],
-    pub(crate) args: &'a [Value],
+pub struct Source<'a> {
+    pub q: &'a Query,
+    pub tables: &'a [Rc<Table>],
+    pub indexes: &'a [Option<Rc<Index>>],
+    pub args: &'a [Value],
 }
 
 /// The combinations that a part of a plan gives, over this set of places.

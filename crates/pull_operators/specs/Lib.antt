@@ -1,0 +1,4 @@
+pub mod Chains
+pub mod Pieces
+pub mod RowsLeft
+pub mod StillToCome
