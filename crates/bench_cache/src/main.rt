@@ -1,6 +1,6 @@
-//! Measures the decision of a plan cache against an optimisation. The words are `hit` or `miss` and the number of
-//! anchors, or `optimise` and the number of places; then the number of instances. `docs/PERFORMANCE.md` has the
-//! figures and the commands.
+//! Measures the decision of a plan cache, and the check of a certificate, against an optimisation. The words are `hit`
+//! or `miss` and the number of anchors, or `optimise`, `optimum`, `selectivity` or `cost` and the number of places; then
+//! the number of instances. `docs/PERFORMANCE.md` has the figures and the commands.
 //!
 //! The statement of the decisions joins five places. Each anchor was optimised, and each decision has the two checks,
 //! with eight recosts at the most. An instance that hits has an anchor's own vector; one that misses is far from all.
@@ -9,8 +9,13 @@
 
 ghost use Rattle.std.specs.Prelude.{◌≤◌};
 
+mod checked;
 mod joins;
+#[cfg(test)]
+mod tests;
 
+use bound_certificate::Cert;
+use checked::{optima, reuses};
 use fraction_math::Ratio;
 use join_optimizer::optimise;
 use joins::join_of;
@@ -137,6 +142,27 @@ fn optimised(alloc: Global, w: &Worked, places: u8, rounds: u64) -> Result<u64, 
     Ok(((sum >> 40) % (1 << 32)) as u64)
 }
 
+/// How many certificates of this kind for a join of so many places are accepted; none where there is no such kind.
+fn accepted(
+    alloc: Global,
+    w: &Worked,
+    kind: &str,
+    places: u8,
+    rounds: u64,
+) -> Result<Option<u64>, OutOfMemory>
+    requires { places ≤ 5 }
+{
+    let all = vector_of(7);
+    let q = &all[..usize::from(places)];
+    let accepted = match kind {
+        "optimum" => optima(alloc, w, q, rounds)?,
+        "selectivity" => reuses(alloc, w, q, &Cert::Selectivity(1), rounds)?,
+        "cost" => reuses(alloc, w, q, &Cert::Cost(1), rounds)?,
+        _ => return Ok(None),
+    };
+    Ok(Some(accepted))
+}
+
 /// What the words ask for; none where they ask for nothing.
 fn measured(
     alloc: Global,
@@ -150,21 +176,27 @@ fn measured(
     if what == "miss" && number <= 4096 {
         return decided(alloc, true, number, rounds);
     }
-    if what != "optimise" || number == 0 || number > 5 {
+    if number == 0 || number > 5 {
         return Ok(None);
     }
     let places = number as u8;
     let Some(w) = join_of(alloc, places)? else {
         return Ok(None);
     };
-    let sum = optimised(alloc, &w, places, rounds)?;
-    Ok(Some(sum))
+    if what == "optimise" {
+        let sum = optimised(alloc, &w, places, rounds)?;
+        return Ok(Some(sum));
+    }
+    let count = accepted(alloc, &w, what, places, rounds)?;
+    Ok(count)
 }
 
 fn main(rt: HostRuntime) -> io::Result<()> {
     let words: Vec<String> = env::args(&rt)?.skip(1).collect(rt.alloc())?;
     let [what, number, rounds] = words.as_slice() else {
-        return println!(rt; "hit or miss and anchors, or optimise and places; instances");
+        return println!(rt;
+            "hit or miss and anchors, else optimise, optimum, selectivity or cost and places; instances"
+        );
     };
     let number = number.as_str().parse::<u64>().unwrap_or(0);
     let rounds = rounds.as_str().parse::<u64>().unwrap_or(0);
