@@ -272,7 +272,7 @@ search_plans_within q indexed (suc most) =
     (some_plan q indexed most) (λ plan. decided_both (decided_plan q indexed plan)
     (less_or_same (nesting plan) (suc most) (decided_less (nesting plan) (suc (suc most)))))
 
-search_plans : (q : Statement) (indexed : List ℕ) → length q.places ≤ 5 → Searchable Tree (IsValidPlan q indexed)
+pub search_plans : (q : Statement) (indexed : List ℕ) → length q.places ≤ 5 → Searchable Tree (IsValidPlan q indexed)
 unfolding IsPlanWithin
 search_plans q indexed few =
     search_among Tree (IsPlanWithin q indexed 10) (IsValidPlan q indexed) (search_plans_within q indexed 10)

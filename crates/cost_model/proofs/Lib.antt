@@ -10,3 +10,4 @@ pub mod Searches
 pub mod Sets
 pub mod SomeTop
 pub mod SoundNumbers
+pub mod TightExists

@@ -203,7 +203,8 @@ search_made A B V make s cost = made_outcome A B V make cost (s (λ a. cost (mak
 
 -- pairs, the second of which may depend on the first
 
-least_cost : (B : Type 0) (W : B → Type 0) (cost : B → Option ℕ) → Outcome B W cost → Option ℕ
+-- what the least found costs, or none
+unfoldable pub least_cost : (B : Type 0) (W : B → Type 0) (cost : B → Option ℕ) → Outcome B W cost → Option ℕ
 least_cost B W cost (inl y) = Some y.least
 least_cost B W cost (inr none) = None
 

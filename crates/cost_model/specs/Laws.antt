@@ -1,5 +1,5 @@
 -- What the laws of costs say, for all statements, statistics and vectors.
-use Rattle.std.specs.Prelude.{ℕ, ◌≡◌, ◌<◌, ◌≤◌, ◌*◌, ◌^◌, Bool, List, length, All, Some}
+use Rattle.std.specs.Prelude.{ℕ, ◌≡◌, ◌<◌, ◌≤◌, ◌*◌, ◌^◌, Bool, false, List, length, All, Some, IsSome}
 use Rattle.row_values.specs.Statements.{Statement, IsSoundQuery, selectivity_count}
 use Rattle.plan_trees.specs.PlanSpace.{IsValidPlan, IsValidTop}
 use Rattle.plan_trees.specs.Statistics.{Statistics, IsSoundStats, IsSoundVector}
@@ -7,7 +7,7 @@ use Rattle.plan_trees.specs.Trees.{Tree, TopTree}
 use Rattle.cost_polynomials.specs.Growth.{grown_to, grown_from, shrunk_to, shrunk_from}
 use Rattle.cost_model.specs.Checks.{PassesSelectivityCheck, PassesCostCheck}
 use Rattle.cost_model.specs.Costs.{plan_cost, top_cost}
-use Rattle.cost_model.specs.LeastCost.{Table, IsLeastCost, IsTight, IsTightCell, IsFeasible, FitsTable}
+use Rattle.cost_model.specs.LeastCost.{Table, IsPlaceSet, IsLeastCost, IsTight, IsTightCell, IsFeasible, FitsTable}
 
 pub record HasLeastCost (q : Statement) (s : Statistics) (vector : List ℕ) : Type 0 where
   pub least : ℕ
@@ -16,6 +16,17 @@ pub record HasLeastCost (q : Statement) (s : Statistics) (vector : List ℕ) : T
 -- a sound statement has a valid top, and of all valid ones some costs least
 abbrev pub LeastCostLaw : Type 0
 LeastCostLaw = (q : Statement) (s : Statistics) (vector : List ℕ) → IsSoundQuery q → HasLeastCost q s vector
+
+-- a tight table that has a number for each set of places, since each has a plan
+pub record HasTightTable (q : Statement) (s : Statistics) (vector : List ℕ) : Type 0 where
+  pub table : Table
+  pub least : ℕ
+  pub is_tight : IsTight q s vector table least
+  pub each_reached : (set : ℕ) → IsPlaceSet q set → IsSome (table false set)
+
+-- a sound statement has a tight table
+abbrev pub TightTableLaw : Type 0
+TightTableLaw = (q : Statement) (s : Statistics) (vector : List ℕ) → IsSoundQuery q → HasTightTable q s vector
 
 -- from the anchor to the instance a cost grows by at most the growth of the selectivities, and shrinks by at most
 -- their shrinking

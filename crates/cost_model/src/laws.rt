@@ -1,10 +1,17 @@
 //! Laws of costs. Their promise is the clause; there is nothing to run.
 ghost use Rattle.cost_model.specs.Laws.{CostCheckLaw, CostRangeLaw, GrowthLaw, LeastCostLaw, LeastGrowthLaw};
 ghost use Rattle.cost_model.specs.Laws.{LowerBoundLaw, SelectivityCheckLaw, TightIsFeasible};
+ghost use Rattle.cost_model.specs.Laws.{TightTableLaw};
 
 /// Every sound statement has a least cost, with any indexes and at every vector.
 pub fn a_least_cost_exists()
     ensures { LeastCostLaw }
+{}
+
+/// Every sound statement has a tight table, with any indexes and at every vector, and in it a
+/// number for every set of places.
+pub fn a_tight_table_exists()
+    ensures { TightTableLaw }
 {}
 
 /// Every valid plan's cost grows by at most the growth of the selectivities, and shrinks by at most
