@@ -1,3 +1,4 @@
+pub mod BestPlans
 pub mod Cards
 pub mod Digits
 pub mod Factors
@@ -7,6 +8,7 @@ pub mod FormulaValues
 pub mod Least
 pub mod Listed
 pub mod Ones
+pub mod Optima
 pub mod Quotients
 pub mod StepParts
 pub mod Wholes

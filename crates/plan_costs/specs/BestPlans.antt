@@ -1,12 +1,13 @@
--- What the best plan of an instance is, and the table of a list of cells.
+-- What the best plan of an instance is, with pointers and without, and the table of a list of cells.
 use Rattle.std.specs.Prelude.{ℕ, zero, suc, ◌≡◌, ◌+◌, ◌^◌, Bool, true, false, List, length, Option, Some, None}
 use Rattle.std.specs.Prelude.{slice_get, option_and_then}
 use Rattle.row_values.specs.Statements.{Statement}
 use Rattle.plan_trees.specs.PlanSpace.{IsValidTop}
 use Rattle.plan_trees.specs.Statistics.{Statistics}
-use Rattle.plan_trees.specs.Trees.{top_tree}
+use Rattle.plan_trees.specs.Trees.{TopTree, top_tree}
 use Rattle.cost_model.specs.Costs.{top_cost}
 use Rattle.cost_model.specs.LeastCost.{Table, IsLeastCost, IsTight}
+use Rattle.plan_costs.specs.LowerBounds.{LowerBounds}
 use Rattle.plan_costs.specs.declared.potentials.Cell.{Cell}
 use Rattle.plan_costs.specs.declared.planner.Best.{Best}
 
@@ -29,3 +30,13 @@ pub record IsBest (q : Statement) (s : Statistics) (vector : List ℕ) (best : B
   pub one_each : length best.potentials.cells + 1 ≡ 2 ^ length q.places
   pub tight : IsTight q s vector (table_of_cells best.potentials.cells) best.potentials.least
   pub same : best.potentials.least ≡ best.cost
+
+-- The same of a plan without pointers, a cost and lower bounds.
+pub record IsOptimum (q : Statement) (s : Statistics) (vector : List ℕ) (top : TopTree) (cost : ℕ)
+    (bounds : LowerBounds) : Type 0 where
+  pub valid : IsValidTop q s.indexed top
+  pub costs : top_cost q s vector top ≡ cost
+  pub least : IsLeastCost q s vector cost
+  pub one_each : length bounds.cells + 1 ≡ 2 ^ length q.places
+  pub tight : IsTight q s vector (table_of_cells bounds.cells) bounds.least
+  pub same : bounds.least ≡ cost

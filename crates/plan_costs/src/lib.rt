@@ -2,7 +2,7 @@
 //!
 //! Each call that computes a cost meets an equation of the cost model and takes no memory; `expr_of` and `poly_of` give a
 //! plan's whole cost as a function of the selectivities, and `cost_of` at one vector. Beside them stand the forms in which an optimiser answers: the
-//! best plan, and the potentials of all sets of places.
+//! best plan, and the potentials of all sets of places; that there is such an answer is the law in `laws`.
 #![tactic(auto)]
 
 mod accesses;
@@ -10,6 +10,7 @@ mod cardinalities;
 mod cheapest_accesses;
 mod cheapest_steps;
 mod formulas;
+pub mod laws;
 mod planner;
 mod polynomials;
 mod potentials;
