@@ -7,8 +7,9 @@ use Rattle.std.proofs.lemmas.Option.{slice_get-get_or, slice_get_past}
 use Rattle.row_values.specs.declared.values.Value.{Value}
 use Rattle.row_values.specs.declared.values.Value.TheVariants.{Int}
 use Rattle.csv_tables.specs.Tables.{AreNumbers, TableValue, value_in}
-use Rattle.row_tests.specs.declared.value_tests.NumberTest.{NumberTest}
-use Rattle.row_tests.specs.Ready.{is_number_in, number_holds}
+use Rattle.row_tests.specs.declared.number_tests.NumberTest.{NumberTest}
+use Rattle.row_tests.specs.NumberTests.{number_holds}
+use Rattle.row_tests.specs.Ready.{is_number_in}
 
 -- the value of a row that may not be there
 pub cell_of_row : (rows : List (List Value)) (row column : ℕ)

@@ -1,1 +1,2 @@
+pub mod NumberTests
 pub mod Ready

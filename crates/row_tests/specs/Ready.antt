@@ -1,27 +1,17 @@
 -- What a ready predicate asks of a row.
-use Rattle.std.specs.Prelude.{ℕ, ℤ, List, [], ◌∷◌, slice_get, slice_index_or, Bool, true, false, ◌&&◌, Option, Some}
+use Rattle.std.specs.Prelude.{ℕ, List, [], ◌∷◌, slice_get, slice_index_or, Bool, true, false, ◌&&◌, Option, Some}
 use Rattle.std.specs.Prelude.{None}
 use Rattle.std.specs.Option.{option_map_or}
-use Rattle.std.specs.Ordering.{int_cmp, is_lt, is_le, is_gt, is_ge, is_eq}
 use Rattle.row_values.specs.declared.values.Value.{Value}
 use Rattle.row_values.specs.declared.values.Value.TheVariants.{Int, Text}
 use Rattle.row_values.specs.declared.statement.Test.{Test}
 use Rattle.row_values.specs.declared.statement.Test.TheVariants as test
 use Rattle.csv_tables.specs.Tables.{TableValue}
 use Rattle.statement_meaning.specs.Conditions.{meets, operand_value}
-use Rattle.row_tests.specs.declared.value_tests.NumberTest.{NumberTest}
-use Rattle.row_tests.specs.declared.value_tests.NumberTest.TheVariants.{Lt, Le, Gt, Ge, Eq, Between}
+use Rattle.row_tests.specs.NumberTests.{number_holds}
+use Rattle.row_tests.specs.declared.number_tests.NumberTest.{NumberTest}
 use Rattle.row_tests.specs.declared.predicate_tests.Ready.{Ready}
 use Rattle.row_tests.specs.declared.predicate_tests.Ready.TheVariants.{Numbers, Cells}
-
--- whether a whole number meets a test against whole numbers
-abbrev pub number_holds : NumberTest → ℤ → Bool
-number_holds (Lt a) number = is_lt (int_cmp number a)
-number_holds (Le a) number = is_le (int_cmp number a)
-number_holds (Gt a) number = is_gt (int_cmp number a)
-number_holds (Ge a) number = is_ge (int_cmp number a)
-number_holds (Eq a) number = is_eq (int_cmp number a)
-number_holds (Between a b) number = is_ge (int_cmp number a) && is_le (int_cmp number b)
 
 -- whether a value is there and is a whole number
 abbrev pub is_number : Option Value → Bool
@@ -48,7 +38,8 @@ is_number_in test (Some (Text text)) = false
 
 -- whether a row, named by its number, meets a ready predicate of its table, and whether it meets all of them
 abbrev pub ready_holds : List Value → TableValue → Ready → ℕ → Bool
-ready_holds args table (Numbers numbers test) row = option_map_or (number_holds test) (slice_get numbers.now row) false
+ready_holds args table (Numbers numbers range) row =
+    option_map_or (number_holds range.test) (slice_get numbers.now row) false
 ready_holds args table (Cells column test) row =
     meets args test.now (slice_get (slice_index_or table.rows row []) column)
 

@@ -1,26 +1,26 @@
 //! Predicates with their operands looked up once, ready for many rows of a table.
 //!
-//! A test of whole numbers against whole numbers is kept as numbers beside the packed list of its
-//! column, so that no
-//! cell is matched; any other stands as it is in the statement.
-ghost use Rattle.std.specs.Prelude.{◌≡◌, ℕ, [], IfOk, IfSome, false, slice_get, slice_index_or};
+//! A test of whole numbers against whole numbers is kept as a range beside the packed list of its
+//! column, so that no cell is matched; any other stands as it is in the statement.
+ghost use Rattle.std.specs.Prelude.{◌≡◌, ℕ, [], IfOk, IfSome, false, length, slice_get, slice_index_or};
 ghost use Rattle.std.specs.Option.{option_map_or};
 ghost use Rattle.csv_tables.specs.Tables.{AreNumbers};
 ghost use Rattle.statement_meaning.specs.Conditions.{holds, row_passes};
-ghost use Rattle.row_tests.specs.Ready.{ready_holds, all_hold, number_holds};
+ghost use Rattle.row_tests.specs.Ready.{ready_holds, all_hold};
+ghost use Rattle.row_tests.specs.NumberTests.{number_holds};
 
 use crate::cells::cell_in;
-use crate::value_tests::{NumberTest, meets_test, number_test};
+use crate::number_tests::NumberRange;
+use crate::value_tests::{meets_test, number_test};
 use csv_tables::Table;
 use row_values::{OutOfMemory, Pred, Test, Value};
 use std::alloc::Global;
 
 /// A predicate that is ready to be asked of the rows of a table: of the packed numbers of its
-/// column, or of the cells in
-/// the column of this number.
+/// column, or of the cells in the column of this number.
 #[derive(Clone, Copy, Debug)]
 pub enum Ready<'a> {
-    Numbers(&'a [i64], NumberTest),
+    Numbers(&'a [i64], NumberRange),
     Cells(usize, &'a Test),
 }
 
@@ -35,15 +35,31 @@ fn packed(table: &Table, column: usize) -> Option<&[i64]>
     table.numbers(column)
 }
 
+/// What a predicate of whole numbers against whole numbers asks: the packed numbers of its column,
+/// one for each row, and the range of those that meet it. None for any other.
+pub fn packed_test<'a>(
+    args: &[Value],
+    table: &'a Table,
+    pred: &Pred,
+) -> Option<(&'a [i64], NumberRange)>
+    ensures one_each { IfSome result (λ found. length found.0.now ≡ length table.now.rows) }
+    ensures value { IfSome result (λ found. (row : ℕ)
+        → option_map_or (number_holds found.1.test) (slice_get found.0.now row) false
+        ≡ holds args.now pred.now (slice_index_or table.now.rows row [])) }
+{
+    let numbers = packed(table, usize::from(pred.at.column))?;
+    let test = number_test(args, &pred.test)?;
+    Some((numbers, test.range()))
+}
+
 /// A predicate, ready for these arguments and the rows of this table.
 pub fn ready_pred<'a>(args: &[Value], table: &'a Table, pred: &'a Pred) -> Ready<'a>
     ensures { (row : ℕ) → ready_holds args.now table.now result row
         ≡ holds args.now pred.now (slice_index_or table.now.rows row []) }
 {
-    let column = usize::from(pred.at.column);
-    match (packed(table, column), number_test(args, &pred.test)) {
-        (Some(numbers), Some(test)) => Ready::Numbers(numbers, test),
-        _ => Ready::Cells(column, &pred.test),
+    match packed_test(args, table, pred) {
+        Some((numbers, range)) => Ready::Numbers(numbers, range),
+        None => Ready::Cells(usize::from(pred.at.column), &pred.test),
     }
 }
 
@@ -67,16 +83,16 @@ pub fn ready_preds<'a>(
     Ok(ready)
 }
 
-/// Whether the number of a row is there and meets a test.
+/// Whether the number of a row is there and in this range.
 #[inline]
 #[tactic(auto, using(crate::proofs::PackedTests::number_missing))]
-fn number_meets(numbers: &[i64], row: usize, test: NumberTest) -> bool
-    ensures { result ≡ option_map_or (number_holds test) (slice_get numbers.now row) false }
+fn number_meets(numbers: &[i64], row: usize, range: NumberRange) -> bool
+    ensures { result ≡ option_map_or (number_holds range.test) (slice_get numbers.now row) false }
 {
     if row >= numbers.len() {
         return false;
     }
-    test.holds(numbers[row])
+    range.holds(numbers[row])
 }
 
 /// Whether a row meets a ready predicate.
@@ -86,7 +102,7 @@ pub fn row_meets(table: &Table, row: usize, args: &[Value], ready: Ready) -> boo
     ensures { result ≡ ready_holds args.now table.now ready.entry row }
 {
     match ready {
-        Ready::Numbers(numbers, test) => number_meets(numbers, row, test),
+        Ready::Numbers(numbers, range) => number_meets(numbers, row, range),
         Ready::Cells(column, test) => match cell_in(table, row, column) {
             Some(cell) => meets_test(args, test, cell),
             None => false,

@@ -1,29 +1,18 @@
 //! Tests of a single value.
 //!
 //! `meets_test` tests any value; `number_test` makes a test against whole numbers alone, which
-//! compares them at once.
-//! An IN stays as it is: its numbers would make every test as large as the longest IN, and tests
-//! are copied.
+//! compares them at once. An IN stays as it is: its numbers would make every test as large as the
+//! longest IN, and tests are copied.
 ghost use Rattle.std.specs.Prelude.{◌≡◌, Some, IfSome, is_some, option_map};
 ghost use Rattle.row_values.specs.declared.values.Value.{Value as AnyValue};
 ghost use Rattle.std.specs.Prelude.{Option as Maybe};
 ghost use Rattle.row_values.specs.Orders.{order_between};
 ghost use Rattle.statement_meaning.specs.Conditions.{operand_value, equals_one, meets};
-ghost use Rattle.row_tests.specs.Ready.{number_holds, is_number_in, is_number, has_numbers};
+ghost use Rattle.row_tests.specs.Ready.{is_number_in, is_number, has_numbers};
 
+use crate::number_tests::NumberTest;
 use row_values::{Operand, Test, Value, compare};
 use std::cmp::Ordering;
-
-/// A test against whole numbers.
-#[derive(Clone, Copy, Debug)]
-pub enum NumberTest {
-    Lt(i64),
-    Le(i64),
-    Gt(i64),
-    Ge(i64),
-    Eq(i64),
-    Between(i64, i64),
-}
 
 /// What an operand stands for; none where its argument isn't there.
 pub fn value_of<'a>(args: &'a [Value], operand: &'a Operand) -> Option<&'a Value>
@@ -101,22 +90,5 @@ pub fn number_test(args: &[Value], test: &Test) -> Option<NumberTest>
         Test::Eq(a) => Some(NumberTest::Eq(number_of(args, a)?)),
         Test::Between(a, b) => Some(NumberTest::Between(number_of(args, a)?, number_of(args, b)?)),
         Test::OneOf(_) => None,
-    }
-}
-
-impl NumberTest {
-    /// Whether a whole number meets it.
-    #[inline]
-    pub fn holds(self, number: i64) -> bool
-        ensures { result ≡ number_holds self number }
-    {
-        match self {
-            NumberTest::Lt(a) => number < a,
-            NumberTest::Le(a) => number <= a,
-            NumberTest::Gt(a) => number > a,
-            NumberTest::Ge(a) => number >= a,
-            NumberTest::Eq(a) => number == a,
-            NumberTest::Between(a, b) => number >= a && number <= b,
-        }
     }
 }

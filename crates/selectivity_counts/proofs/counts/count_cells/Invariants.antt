@@ -1,6 +1,6 @@
 use Rattle.std.proofs.Common.{◌≡◌, ◌≤◌, take}
 use Rattle.statement_meaning.specs.Vectors.{matching}
-use Rattle.selectivity_counts.proofs.counts.count_rows.Given as goal
+use Rattle.selectivity_counts.proofs.counts.count_cells.Given as goal
 
 -- the rows so far are counted
 abbrev pub invariant-loop-row : goal.invariant-loop-row
