@@ -6,15 +6,14 @@ use Rattle.std.proofs.lemmas.List.{get_or_append_left, get_or_push, length_push}
 use Rattle.std.proofs.lemmas.Option.{slice_get_within}
 use Rattle.row_values.specs.Statements.{Statement}
 use Rattle.row_values.specs.declared.statement.Edge.{Edge}
-use Rattle.plan_trees.specs.declared.plans.Access.{Access}
 use Rattle.plan_trees.specs.declared.plans.StepKind.{StepKind}
 use Rattle.plan_trees.specs.declared.plans.StepKind.TheVariants.{Loop, Probe}
-use Rattle.plan_trees.specs.Lists.{IsAccessOf, IsStepInto}
+use Rattle.plan_trees.specs.Lists.{IsStepInto}
 use Rattle.plan_trees.specs.PlaceSets.{has, one}
 use Rattle.plan_trees.specs.Statistics.{Statistics}
 use Rattle.plan_trees.specs.Trees.{place_entering}
 use Rattle.cost_model.specs.Cardinalities.{card_of}
-use Rattle.cost_model.specs.Costs.{access_unit, step_cost}
+use Rattle.cost_model.specs.Costs.{step_cost}
 use Rattle.plan_costs.specs.Units.{unit_of_step}
 use Rattle.plan_costs.proofs.StepParts.{step_by_parts}
 use Rattle.plan_costs.specs.declared.cheapest_accesses.PricedAccess.{PricedAccess}

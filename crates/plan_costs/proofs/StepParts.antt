@@ -12,7 +12,6 @@ use Rattle.row_values.specs.declared.columns.Column.{Column}
 use Rattle.row_values.specs.declared.statement.Edge.{Edge}
 use Rattle.row_values.specs.declared.statement.Place.{Place}
 use Rattle.row_values.specs.declared.statement.Pred.{Pred}
-use Rattle.plan_trees.specs.declared.plans.Access.{Access}
 use Rattle.plan_trees.specs.declared.plans.StepKind.{StepKind}
 use Rattle.plan_trees.specs.declared.plans.StepKind.TheVariants.{Loop, Probe}
 use Rattle.plan_trees.specs.Indexes.{has_index}
@@ -21,7 +20,7 @@ use Rattle.plan_trees.specs.PlanSpace.{IsValidPlan, IsValidStep, column_in, colu
 use Rattle.plan_trees.specs.Statistics.{Statistics, IsSoundStats, IsSoundVector}
 use Rattle.plan_trees.specs.Trees.{Tree, place_entering, places_of}
 use Rattle.cost_model.specs.Cardinalities.{card_of, product_over}
-use Rattle.cost_model.specs.Costs.{digits, join_cost, step_cost}
+use Rattle.cost_model.specs.Costs.{digits, join_cost, sort_cost, step_cost}
 use Rattle.cost_model.proofs.CostBounds.{card_below_limit, join_below_limit, sort_below_limit, step_below_limit}
 use Rattle.cost_model.proofs.Growth.{selectivity_of}
 use Rattle.cost_model.proofs.Sets.{set_of_plan}
@@ -130,6 +129,11 @@ sides_fit q s vector left right first second h k v a b =
     let few = card_below_limit q s vector left (are_sized q s vector h k v) in
     let less = card_below_limit q s vector right (are_sized q s vector h k v) in
     omega arith
+
+pub sort_by_parts : (q : Statement) (s : Statistics) (vector : List ℕ) (set card cost : ℕ)
+    → card ≡ card_of q s vector set → cost ≡ s.weights.sort * digits (product_over set 0 s.rows) * card
+    → cost ≡ sort_cost q s vector set
+sort_by_parts q s vector set card cost e f = f ∙ ap (λ n. s.weights.sort * digits (product_over set 0 s.rows) * n) e
 
 pub sort_parts_fit : (q : Statement) (s : Statistics) (vector : List ℕ) (set card : ℕ)
     → IsSoundQuery q → IsSoundStats q s → IsSoundVector q s vector

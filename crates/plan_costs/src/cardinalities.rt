@@ -53,7 +53,8 @@ fn rows_factor(stats: &Stats, set: u8, pred: &Pred) -> u64
     }
 }
 
-/// The number divided by the factor, rounded up. Most factors are 1, and to divide takes long.
+/// The number divided by the factor, rounded up. Most factors are 1, and most numbers fit 64 bits: to divide more takes
+/// long.
 fn divided(number: u128, factor: u64) -> u128
     requires { 1 ≤ factor }
     ensures { result ≡ div_ceil number factor }
@@ -61,7 +62,10 @@ fn divided(number: u128, factor: u64) -> u128
     if factor == 1 {
         return number;
     }
-    number.div_ceil(u128::from(factor))
+    match u64::try_from(number) {
+        Ok(small) => u128::from(small.div_ceil(factor)),
+        Err(_) => number.div_ceil(u128::from(factor)),
+    }
 }
 
 /// The rows of each parameterised predicate's place in the set, multiplied.

@@ -1,7 +1,8 @@
 //! What a step adds to the cost of the plan below it, and a hash join to that of the plans on its two sides.
 //!
 //! A step's cost is made of what it does for each row so far and of two cardinalities, a hash join's of three. Whoever has
-//! them already calls `step_cost_with` and `join_cost_with`; `step_cost` and `join_cost` compute them first.
+//! them already calls `step_cost_with` and `join_cost_with`; `step_cost` and `join_cost` compute them first. A whole plan's
+//! cost hands them up from step to step.
 ghost use Rattle.std.specs.Prelude.{ℕ, ◌≡◌, ◌<◌, ◌+◌, ◌*◌, ◌^◌, [], IsTrue, false, Some, length, slice_get, slice_index_or};
 ghost use Rattle.row_values.specs.Statements.{IsSoundQuery};
 ghost use Rattle.row_values.specs.declared.statement.Edge.{Edge as AnEdge};
@@ -46,7 +47,7 @@ pub(crate) fn step_unit(q: &Query, stats: &Stats, step: StepKind, s: &[u64]) -> 
 }
 
 /// What a step adds that does so much for each row so far, by the cardinalities before and after it.
-fn step_cost_of(stats: &Stats, unit: u128, before: u128, after: u128) -> u128
+pub(crate) fn step_cost_of(stats: &Stats, unit: u128, before: u128, after: u128) -> u128
     requires fits { before * unit + stats.now.weights.out * after < 2 ^ 128 }
     ensures value { result ≡ before * unit + stats.now.weights.out * after }
 {
@@ -92,7 +93,7 @@ pub fn step_cost_with(
 }
 
 /// What a hash join adds to its two sides, by their cardinalities and that of both together.
-fn join_cost_of(stats: &Stats, left: u128, right: u128, after: u128) -> u128
+pub(crate) fn join_cost_of(stats: &Stats, left: u128, right: u128, after: u128) -> u128
     requires sides { left + right < 2 ^ 128 }
     requires fits { stats.now.weights.hash * (left + right) + stats.now.weights.out * after < 2 ^ 128 }
     ensures value { result

@@ -1,32 +1,51 @@
 //! What a plan costs at one vector, without memory.
 //!
 //! `poly_of` gives a plan's cost at every vector, and takes memory for it. Whoever asks at one vector alone, as a
-//! checker does, calls `cost_of`.
+//! checker does, calls `cost_of`. A plan hands up its cardinality with its cost, so that each set's is computed once.
 ghost use Rattle.std.specs.Prelude.{◌≡◌, ◌≤◌, ◌<◌, ◌+◌, ◌*◌, ◌^◌, IsTrue, length};
 ghost use Rattle.row_values.specs.Statements.{IsSoundQuery};
 ghost use Rattle.plan_trees.specs.PlaceSets.{are_apart, one};
 ghost use Rattle.plan_trees.specs.PlanSpace.{IsValidPlan, IsValidStep, IsValidTop};
 ghost use Rattle.plan_trees.specs.Statistics.{IsSoundStats, IsSoundVector};
-ghost use Rattle.plan_trees.specs.Trees.{place_entering, places_of, top_tree, tree};
+ghost use Rattle.plan_trees.specs.Trees.{Base, place_entering, places_of, top_tree, tree};
 ghost use Rattle.cost_model.specs.Cardinalities.{card_of};
 ghost use Rattle.cost_model.specs.Costs as costs;
 ghost use Rattle.cost_model.specs.LeastCost.{IsPlaceSet};
 
 use crate::accesses::access_unit;
 use crate::cardinalities::card;
-use crate::sorts::sort_cost;
-use crate::steps::{join_cost, step_cost};
+use crate::sorts::sort_cost_of;
+use crate::steps::{join_cost_of, step_cost_of, step_unit};
 use plan_trees::{
-    COST_SCALE, Plan, Stats, StepKind, Top, one_place, place_read, step_place, with_place,
+    Access, COST_SCALE, Plan, Stats, StepKind, Top, one_place, place_read, step_place, with_place,
     with_places,
 };
 use row_values::Query;
 
-/// A plan's cost, and its places.
+/// A plan's cost, its places, and the cardinality of these.
 #[derive(Clone, Copy, Debug)]
 struct Whole {
     cost: u128,
     places: u8,
+    card: u128,
+}
+
+/// The access by itself.
+fn base_of(q: &Query, stats: &Stats, access: Access, s: &[u64]) -> Whole
+    requires query { IsSoundQuery q.now }
+    requires sound { IsSoundStats q.now stats.now }
+    requires vector { IsSoundVector q.now stats.now s.now }
+    requires valid { IsValidPlan q.now stats.now.indexed (Base access) }
+    ensures cost { result.cost ≡ costs.plan_cost q.now stats.now s.now (Base access) }
+    ensures places { result.places ≡ places_of (Base access) }
+    ensures card { result.card ≡ card_of q.now stats.now s.now (places_of (Base access)) }
+{
+    let places = one_place(place_read(access));
+    Whole {
+        cost: COST_SCALE * access_unit(q, stats, &access, s),
+        places,
+        card: card(q, stats, places, s),
+    }
 }
 
 /// The outer plan with a step over it.
@@ -34,15 +53,23 @@ fn after_step(q: &Query, stats: &Stats, outer: Whole, step: StepKind, s: &[u64])
     requires sound { IsSoundStats q.now stats.now }
     requires vector { IsSoundVector q.now stats.now s.now }
     requires there { outer.places < 2 ^ length q.now.places }
+    requires card { outer.card ≡ card_of q.now stats.now s.now outer.places }
     requires valid { IsValidStep q.now stats.now.indexed outer.places step }
     requires fits { outer.cost + costs.step_cost q.now stats.now s.now outer.places step < 2 ^ 128 }
     ensures cost { result.cost ≡ outer.cost + costs.step_cost q.now stats.now s.now outer.places step }
     ensures places { result.places ≡ outer.places + one (place_entering step) }
+    ensures card { result.card ≡ card_of q.now stats.now s.now (outer.places + one (place_entering step)) }
 {
     q.sound();
-    let cost = outer.cost + step_cost(q, stats, outer.places, &step, s);
     let places = with_place(outer.places, step_place(step));
-    Whole { cost, places }
+    let after = card(q, stats, places, s);
+    let unit = step_unit(q, stats, step, s);
+    let cost = outer.cost + step_cost_of(stats, unit, outer.card, after);
+    Whole {
+        cost,
+        places,
+        card: after,
+    }
 }
 
 /// The hash join of the two plans.
@@ -52,19 +79,27 @@ fn after_join(q: &Query, stats: &Stats, outer: Whole, inner: Whole, s: &[u64]) -
     requires left { IsPlaceSet q.now outer.places }
     requires right { IsPlaceSet q.now inner.places }
     requires apart { IsTrue (are_apart outer.places inner.places) }
+    requires left_card { outer.card ≡ card_of q.now stats.now s.now outer.places }
+    requires right_card { inner.card ≡ card_of q.now stats.now s.now inner.places }
     requires fits { outer.cost + inner.cost + costs.join_cost q.now stats.now s.now outer.places inner.places
         < 2 ^ 128 }
     ensures cost { result.cost
         ≡ outer.cost + inner.cost + costs.join_cost q.now stats.now s.now outer.places inner.places }
     ensures places { result.places ≡ outer.places + inner.places }
+    ensures card { result.card ≡ card_of q.now stats.now s.now (outer.places + inner.places) }
 {
     q.sound();
-    let cost = outer.cost + inner.cost + join_cost(q, stats, outer.places, inner.places, s);
     let places = with_places(outer.places, inner.places);
-    Whole { cost, places }
+    let after = card(q, stats, places, s);
+    let cost = outer.cost + inner.cost + join_cost_of(stats, outer.card, inner.card, after);
+    Whole {
+        cost,
+        places,
+        card: after,
+    }
 }
 
-/// The plan's cost, and its places.
+/// The plan's cost, its places, and the cardinality of these.
 fn whole_of(q: &Query, stats: &Stats, p: &Plan, s: &[u64]) -> Whole
     requires query { IsSoundQuery q.now }
     requires sound { IsSoundStats q.now stats.now }
@@ -72,12 +107,10 @@ fn whole_of(q: &Query, stats: &Stats, p: &Plan, s: &[u64]) -> Whole
     requires valid { IsValidPlan q.now stats.now.indexed (tree p.now) }
     ensures cost { result.cost ≡ costs.plan_cost q.now stats.now s.now (tree p.now) }
     ensures places { result.places ≡ places_of (tree p.now) }
+    ensures card { result.card ≡ card_of q.now stats.now s.now (places_of (tree p.now)) }
 {
     match p {
-        Plan::Base(access) => Whole {
-            cost: COST_SCALE * access_unit(q, stats, access, s),
-            places: one_place(place_read(*access)),
-        },
+        Plan::Base(access) => base_of(q, stats, *access, s),
         Plan::Loop(outer, access) => {
             let below = whole_of(q, stats, outer, s);
             after_step(q, stats, below, StepKind::Loop(*access), s)
@@ -93,11 +126,8 @@ fn whole_of(q: &Query, stats: &Stats, p: &Plan, s: &[u64]) -> Whole
         }
         Plan::Sort(outer) => {
             let below = whole_of(q, stats, outer, s);
-            let cost = below.cost + sort_cost(q, stats, below.places, s);
-            Whole {
-                cost,
-                places: below.places,
-            }
+            let cost = below.cost + sort_cost_of(q, stats, below.places, below.card);
+            Whole { cost, ..below }
         }
     }
 }
@@ -113,7 +143,7 @@ fn grouped_cost(q: &Query, stats: &Stats, weight: u16, p: &Plan, s: &[u64]) -> u
         + weight * card_of q.now stats.now s.now (places_of (tree p.now)) }
 {
     let below = whole_of(q, stats, p, s);
-    below.cost + u128::from(weight) * card(q, stats, below.places, s)
+    below.cost + u128::from(weight) * below.card
 }
 
 /// What the plan costs at the vector. It takes no memory.

@@ -1,4 +1,3 @@
-use Rattle.std.proofs.Common.{◌≤◌}
 use Rattle.cost_model.specs.Costs.{access_unit}
 use Rattle.plan_costs.specs.Least.{IsPricedAccess}
 use Rattle.plan_costs.proofs.Listed.{AreAbove}

@@ -1,4 +1,4 @@
-use Rattle.std.proofs.Common.{ap, ◌∙◌, ◌+◌}
+use Rattle.std.proofs.Common.{◌∙◌, ◌+◌}
 use Rattle.plan_trees.proofs.Bits.{both_below}
 use Rattle.plan_costs.proofs.StepParts.{card_read, card_there, join_by_parts, join_parts_fit, sides_fit, small_set}
 use Rattle.plan_costs.proofs.steps.join_cost_with.Goals as goal

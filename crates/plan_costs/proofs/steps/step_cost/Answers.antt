@@ -1,5 +1,5 @@
-use Rattle.std.proofs.Common.{◌≡◌, ◌<◌, ◌+◌, ◌^◌, ◌∙◌, ap, arith, false, length}
-use Rattle.plan_trees.specs.PlaceSets.{has, one}
+use Rattle.std.proofs.Common.{◌+◌, ◌∙◌, ap, arith, length}
+use Rattle.plan_trees.specs.PlaceSets.{one}
 use Rattle.plan_trees.specs.Trees.{place_entering}
 use Rattle.plan_trees.proofs.SoundParts.{step_in_range}
 use Rattle.plan_trees.proofs.ValidPlans.{entering_new}

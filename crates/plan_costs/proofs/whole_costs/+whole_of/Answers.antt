@@ -1,32 +1,11 @@
 -- Each part of a valid plan is valid, and each sum on the way to its cost fits.
-use Rattle.std.proofs.Common.{◌≡◌, ◌<◌, ◌+◌, ◌*◌, ◌^◌, ap, arith}
+use Rattle.std.proofs.Common.{◌<◌, ◌+◌, ◌^◌, ◌∙◌, ap, arith, sym}
 use Rattle.plan_trees.specs.declared.plans.StepKind.TheVariants.{Loop, Probe}
-use Rattle.plan_trees.specs.Trees.{Base, tree}
-use Rattle.plan_trees.specs.declared.scale.TheConstants.{COST_SCALE}
-use Rattle.plan_trees.proofs.SoundParts.{access_in_range}
-use Rattle.cost_model.specs.Costs.{access_unit}
-use Rattle.cost_model.proofs.CostBounds.{costs_fit}
+use Rattle.plan_trees.specs.Trees.{tree}
+use Rattle.cost_model.specs.Cardinalities.{card_of}
+use Rattle.plan_costs.proofs.StepParts.{sort_by_parts, sort_parts_fit}
 use Rattle.plan_costs.proofs.Wholes.{plan_there, sort_fits, takes_join, takes_step}
 use Rattle.plan_costs.proofs.whole_costs.+whole_of.Goals as goal
-
-pub overflow_mul-result : goal.overflow_mul-result
-overflow_mul-result t c =
-    let valid = rw c.in-Base.is at c.requires.valid in
-    let fits : COST_SCALE * access_unit c.args.q.now c.args.stats.now c.args.s.now c.in-Base.access < 2 ^ 124 =
-    ((costs_fit c.args.q.now c.args.stats.now c.args.s.now c.requires.query c.requires.sound c.requires.vector).plans
-    (Base c.in-Base.access) valid).high in
-    let same : COST_SCALE * c.access_unit.result
-    ≡ COST_SCALE * access_unit c.args.q.now c.args.stats.now c.args.s.now c.in-Base.access =
-    ap (λ n. COST_SCALE * n) c.access_unit.ensures.value in
-    omega arith
-
-pub one_place-requires : goal.one_place-requires
-one_place-requires t c =
-    let valid = rw c.in-Base.is at c.requires.valid in
-    let less = access_in_range c.args.q.now c.args.stats.now.indexed c.in-Base.access valid in
-    let few = c.requires.query.few_places in
-    let same = c.place_read.ensures in
-    omega arith
 
 pub after_step-requires-clause-there : goal.after_step-requires-clause-there
 after_step-requires-clause-there t c =
@@ -84,11 +63,12 @@ after_join-requires-clause-fits t c =
     _ _ _ c.requires.query c.requires.sound c.requires.vector valid left.places right.places left.cost
     right.cost).fits
 
-pub sort_cost-requires-clause-there : goal.sort_cost-requires-clause-there
-sort_cost-requires-clause-there t c =
-    let valid = rw c.in-Sort.is at c.requires.valid in
+pub sort_cost_of-requires-clause-fits : goal.sort_cost_of-requires-clause-fits
+sort_cost_of-requires-clause-fits t c =
     let below = rw c.deref-in-Sort.ensures at c.whole_of-below-in-Sort.ensures in
-    plan_there c.args.q.now c.args.stats.now.indexed (tree c.in-Sort.outer.value) _ valid.0 below.places
+    sort_parts_fit c.args.q.now c.args.stats.now c.args.s.now c.whole_of-below-in-Sort.result.places _
+    c.requires.query c.requires.sound c.requires.vector
+    (below.card ∙ ap (card_of c.args.q.now c.args.stats.now c.args.s.now) (sym below.places))
 
 pub overflow_add-cost : goal.overflow_add-cost
 overflow_add-cost t c =
@@ -96,6 +76,8 @@ overflow_add-cost t c =
     let below = rw c.deref-in-Sort.ensures at c.whole_of-below-in-Sort.ensures in
     let fits = sort_fits c.args.q.now c.args.stats.now c.args.s.now (tree c.in-Sort.outer.value) _ _ c.requires.query
     c.requires.sound c.requires.vector valid below.places below.cost in
-    let less : c.whole_of-below-in-Sort.result.cost + c.sort_cost.result < 2 ^ 128 =
-    rw c.sort_cost.ensures.value fits in
+    let same = sort_by_parts c.args.q.now c.args.stats.now c.args.s.now c.whole_of-below-in-Sort.result.places _ _
+    (below.card ∙ ap (card_of c.args.q.now c.args.stats.now c.args.s.now) (sym below.places))
+    c.sort_cost_of.ensures.value in
+    let less : c.whole_of-below-in-Sort.result.cost + c.sort_cost_of.result < 2 ^ 128 = rw same fits in
     omega arith
