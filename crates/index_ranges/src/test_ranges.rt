@@ -1,10 +1,10 @@
 //! The ranges of positions that meet a test.
-ghost use Rattle.std.specs.Prelude.{◌≡◌, ◌<◌, ◌≤◌, All, filter, length};
+ghost use Rattle.std.specs.Prelude.{◌≡◌, ◌<◌, ◌≤◌, All, false, filter, length};
 ghost use Rattle.row_values.specs.Operands.{AreOperands};
 ghost use Rattle.csv_tables.specs.Tables.{cell_at};
 ghost use Rattle.statement_meaning.specs.Conditions.{equals_one, meets};
 ghost use Rattle.table_index.specs.Indexes.{IsBuilt};
-ghost use Rattle.index_ranges.specs.Ranges.{are_within, rows_between};
+ghost use Rattle.index_ranges.specs.Ranges.{are_within, is_one_of, rows_between};
 
 use crate::ends::{ends, within};
 use crate::ranges::Ranges;
@@ -48,8 +48,8 @@ pub fn ranges_of(index: &Index, t: &Table, test: &Test, args: &[Value]) -> Range
     ranges
 }
 
-/// How many rows of the table meet a test of the index's column.
-pub fn count_in(index: &Index, t: &Table, test: &Test, args: &[Value]) -> u64
+/// How many rows of the table meet a test, by its ranges.
+fn count_in_ranges(index: &Index, t: &Table, test: &Test, args: &[Value]) -> u64
     requires { IsBuilt t.now index.now.column index.now }
     ensures { result ≡ length (filter (λ row. meets args.now test.now (cell_at t.now row index.now.column)) index.now.rows) }
 {
@@ -59,4 +59,30 @@ pub fn count_in(index: &Index, t: &Table, test: &Test, args: &[Value]) -> u64
         count += index.rows()[range.0..range.1].len() as u64;
     }
     count
+}
+
+/// How many rows of the table meet a test that is no IN: those between its two ends.
+fn count_between(index: &Index, t: &Table, test: &Test, args: &[Value]) -> u64
+    requires built { IsBuilt t.now index.now.column index.now }
+    requires no_in { is_one_of test.now ≡ false }
+    ensures { result ≡ length (filter (λ row. meets args.now test.now (cell_at t.now row index.now.column)) index.now.rows) }
+{
+    match ends(args, test) {
+        Some((low, high)) => {
+            let (first, end) = within(index, t, low, high);
+            index.rows()[first..end].len() as u64
+        }
+        None => 0,
+    }
+}
+
+/// How many rows of the table meet a test of the index's column.
+pub fn count_in(index: &Index, t: &Table, test: &Test, args: &[Value]) -> u64
+    requires { IsBuilt t.now index.now.column index.now }
+    ensures { result ≡ length (filter (λ row. meets args.now test.now (cell_at t.now row index.now.column)) index.now.rows) }
+{
+    match test {
+        Test::OneOf(_) => count_in_ranges(index, t, test, args),
+        _ => count_between(index, t, test, args),
+    }
 }

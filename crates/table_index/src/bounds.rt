@@ -16,6 +16,7 @@ pub enum Bound<'a> {
 }
 
 /// Whether the cell of a row lies at or above a low end, and above a strict one.
+#[inline]
 pub(crate) fn meets_low(
     t: &Table,
     column: usize,
@@ -39,6 +40,7 @@ pub(crate) fn meets_low(
 }
 
 /// Whether the cell of a row lies at or below a high end, and below a strict one.
+#[inline]
 pub(crate) fn meets_high(
     t: &Table,
     column: usize,

@@ -24,6 +24,7 @@ pub(crate) fn cell(t: &Table, column: usize, row: u32) -> Option<&Value>
 }
 
 /// How the cell of a row stands to a value.
+#[inline]
 pub(crate) fn cell_to(
     t: &Table,
     column: usize,

@@ -95,16 +95,16 @@ fn numbers_are_ordered_by_value_and_row(rt: HostRuntime) -> Result<(), OutOfMemo
 #[test]
 fn texts_are_ordered_by_bytes(rt: HostRuntime) -> Result<(), OutOfMemory> {
     let alloc = rt.alloc();
-    let table = texts_of(alloc, b"v:text\nb\na\n10\nb\n9\n")?;
+    let table = texts_of(alloc, b"v:text\nab\naa\n10\nab\n9\n")?;
     let index = Index::build(alloc, &table, 0)?;
     let rows = rows_text(alloc, index.rows())?;
     assert_eq!(rt; rows.as_str(), "2 4 1 0 3");
-    let a = Value::Text(Words::of(alloc, "a")?);
-    let b = Value::Text(Words::of(alloc, "b")?);
-    let from_a = index.range(&table, Bound::Closed(&a), Bound::Free);
-    assert_eq!(rt; from_a, (2, 5));
-    let below_b = index.range(&table, Bound::Free, Bound::Strict(&b));
-    assert_eq!(rt; below_b, (0, 3));
+    let aa = Value::Text(Words::of(alloc, "aa")?);
+    let ab = Value::Text(Words::of(alloc, "ab")?);
+    let from_aa = index.range(&table, Bound::Closed(&aa), Bound::Free);
+    assert_eq!(rt; from_aa, (2, 5));
+    let below_ab = index.range(&table, Bound::Free, Bound::Strict(&ab));
+    assert_eq!(rt; below_ab, (0, 3));
     assert_eq!(rt; index.distinct(&table), 4);
     assert_eq!(rt; distinct_values(alloc, &table, 0)?, 4);
     Ok(())

@@ -1,6 +1,6 @@
 use Rattle.std.proofs.Common.{◌≡◌, length, take}
 use Rattle.index_ranges.specs.Ranges.{rows_between}
-use Rattle.index_ranges.proofs.test_ranges.count_in.Given as goal
+use Rattle.index_ranges.proofs.test_ranges.count_in_ranges.Given as goal
 
 -- the rows of the ranges so far
 abbrev pub invariant-loop-range : goal.invariant-loop-range
