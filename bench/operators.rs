@@ -28,6 +28,35 @@ fn read(text: &str) -> Table {
     Table { columns }
 }
 
+/// A cell that may be of either kind, as a table of any columns keeps it.
+enum Cell {
+    Int(i64),
+    Text(Box<str>),
+}
+
+/// The cells of a CSV text behind its header, row after row; a cell that is no number is a text.
+fn cells(text: &str) -> Vec<Cell> {
+    let mut cells = Vec::new();
+    for line in text.lines().skip(1) {
+        for cell in line.split(',') {
+            cells.push(match cell.parse() {
+                Ok(number) => Cell::Int(number),
+                Err(_) => Cell::Text(cell.into()),
+            });
+        }
+    }
+    cells
+}
+
+/// How many rows of three cells there are; the first of each is looked at.
+fn rows_of_cells(cells: &[Cell]) -> u64 {
+    let is_filled = |row: &&[Cell]| match &row[0] {
+        Cell::Int(number) => *number >= 0,
+        Cell::Text(text) => !text.is_empty(),
+    };
+    cells.chunks(3).filter(is_filled).count() as u64
+}
+
 fn customers() -> Vec<i64> {
     (1..1501).collect()
 }
@@ -180,7 +209,7 @@ fn measured(what: &str, count: u64) -> Option<u64> {
         }
         "load" => {
             let text = numbers(MILLION);
-            rounds(count, || read(&text).len() as u64)
+            rounds(count, || rows_of_cells(&cells(&text)))
         }
         "scan" => {
             let t = read(&numbers(MILLION));
