@@ -1,4 +1,5 @@
 pub mod Fields
+pub mod Guessed
 pub mod Names
 pub mod PackedCells
 pub mod PackedColumns

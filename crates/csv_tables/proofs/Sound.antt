@@ -1,6 +1,6 @@
 -- A file without a fault spells a table.
 use Rattle.std.proofs.Common.{if◌then◌else◌, ◌≡◌, ◌≤◌, ◌+◌, ◌*◌, ℕ, suc, nat_eq, Bool, true, false, not, ◌||◌, List, []}
-use Rattle.std.proofs.Common.{◌∷◌, ◌++◌, get_or, length, map, Option, None, Some, Ok, refl, sym, ap, ◌∙◌, arith}
+use Rattle.std.proofs.Common.{◌∷◌, ◌++◌, get_or, length, map, Option, None, Some, Ok, Err, option_map, take, zero, refl, sym, ap, ◌∙◌, arith}
 use Rattle.std.proofs.Common.{zero-mul, suc-mul, length-append}
 use Rattle.std.proofs.lemmas.Bool.{and_parts, or_parts}
 use Rattle.std.proofs.lemmas.List.{drop_at, get_or-map, length-map, take_at}
@@ -19,14 +19,15 @@ use Rattle.csv_tables.specs.Headers.{bad_name, heading_of, is_bad_name, name_of}
 use Rattle.csv_tables.specs.Numbers.{is_whole_number}
 use Rattle.csv_tables.specs.Spelled.{bad_cell, cell_in_row, faults_of, first_of, table_of, uneven_row}
 use Rattle.csv_tables.specs.Reading.{records_of}
-use Rattle.csv_tables.specs.Surveys.{IsSoundFile, IsSurvey}
+use Rattle.csv_tables.specs.Surveys.{IsShapedFile, IsSurveyedFile}
 use Rattle.csv_tables.specs.declared.survey.Survey.{Survey}
 use Rattle.csv_tables.specs.Tables.{IsKept, column_kinds, rows_of, table_of_cells}
 use Rattle.csv_tables.specs.declared.faults.TableFault.TheVariants.{BadCell}
 use Rattle.csv_tables.specs.declared.header.Heading.{Heading}
 use Rattle.csv_tables.specs.declared.table.TheConstants.{CELL_LIMIT, ROW_LIMIT}
 use Rattle.csv_tables.proofs.Rows.{length-rows_of}
-use Rattle.csv_tables.proofs.Spelled.{NoFault, cell_first, no_fault, shape_faults, spelled}
+use Rattle.csv_tables.proofs.Guessed.{columns_hold, rows_stand}
+use Rattle.csv_tables.proofs.Spelled.{NoFault, cell_first, few_cells, few_rows, no_fault, refused, shape_faults, spelled}
 
 -- ---- each cell is one of its column's kind
 
@@ -196,7 +197,15 @@ is_kept columns rows schema few cells = record {
   };
 }
 
--- ---- the second reading
+-- ---- the first rows
+
+pub whole_front : {T : Type 0} (n : ℕ) (xs : List T) → length (take n xs) ≡ length xs → take n xs ≡ xs
+whole_front zero [] h = refl
+whole_front zero (x ∷ xs) h = absurd (omega (arith, h))
+whole_front (suc n) [] h = refl
+whole_front {T = T} (suc n) (x ∷ xs) h = ap (λ (ys : List T). x ∷ ys) (whole_front n xs (omega (arith, h)))
+
+-- ---- the cells that are read
 
 -- behind the header come the rows
 pub behind_header : (found : Bool) (header fields : List (List ℕ)) (rows left : List (List (List ℕ)))
@@ -204,85 +213,128 @@ pub behind_header : (found : Bool) (header fields : List (List ℕ)) (rows left 
 behind_header true header fields rows left h = cc
 behind_header false header fields rows left h = cc
 
--- what is known of a file that was found to be sound, and of the columns that were made of it
-pub record Built (bytes : List ℕ) (headings : List Heading) (survey : Survey) (columns : List Column)
-    (left : List (List (List ℕ))) : Type 0 where
-  pub rows : List (List (List ℕ))
-  pub left_are : left ≡ rows
-  pub row_count : survey.row_count ≡ length rows
-  pub schema : IsSchema columns
-  pub few : length rows ≤ ROW_LIMIT
-  pub cells : length rows * length columns ≤ CELL_LIMIT
-  pub sound : list_all (are_cells 0 columns) rows ≡ true
-  pub spells : table_of bytes ≡ Ok (record { schema = columns; rows = map (values_from 0 columns) rows })
+-- what is left of a file behind its header, where its columns were made of its first rows
+pub record Left (row_count : ℕ) (columns : List Column) (left : List (List (List ℕ))) : Type 0 where
+  pub counted : length left ≡ row_count
+  pub cells : row_count * length columns ≤ CELL_LIMIT
 
-pub built : (bytes : List ℕ) (headings : List Heading) (survey : Survey) (columns : List Column) (found : Bool)
-    (fields : List (List ℕ)) (left : List (List (List ℕ)))
-    → (file : IsSoundFile bytes headings survey) → columns ≡ columns_from 0 headings file.rows
-    → records_of bytes ≡ (if found then fields ∷ left else []) → Built bytes headings survey columns left
-built bytes headings survey columns found fields left file made next =
-    let f = no_fault file.header file.rows file.sound in
-    let same : columns ≡ columns_from 0 (map heading_of file.header) file.rows = rw (← file.headings_are) made in
-    let width : length (columns_from 0 (map heading_of file.header) file.rows) ≡ length file.header =
-    length-columns_from 0 (map heading_of file.header) file.rows ∙ length-map file.header heading_of in
+pub left : (bytes : List ℕ) (headings : List Heading) (row_count : ℕ) (survey : Survey) (columns : List Column)
+    (found : Bool) (fields : List (List ℕ)) (rows : List (List (List ℕ)))
+    → (file : IsSurveyedFile bytes headings row_count survey)
+    → columns ≡ columns_from 0 headings (take file.seen file.shaped.rows)
+    → records_of bytes ≡ (if found then fields ∷ rows else []) → Left row_count columns rows
+left bytes headings row_count survey columns found fields rows file made next =
+    let are = behind_header found file.shaped.header fields file.shaped.rows rows (sym file.shaped.reads ∙ next) in
+    let width : length columns ≡ length file.shaped.header =
+    ap length made
+    ∙ (length-columns_from 0 headings (take file.seen file.shaped.rows)
+    ∙ (ap length file.shaped.headings_are ∙ length-map file.shaped.header heading_of)) in
     record {
-      rows = file.rows;
-      left_are = behind_header found file.header fields file.rows left (sym file.reads ∙ next);
-      row_count = file.survey_is.row_count;
-      schema = rw same (is_schema file.header file.rows f);
-      few = f.rows_few;
-      cells = rw (same, width) f.cells;
-      sound = rw same (rows_are_sound 1 (map heading_of file.header) file.rows file.rows f.bad (λ k e. e));
-      spells = rw same (spelled bytes file.header file.rows file.reads file.sound);
+      counted = rw are (sym file.shaped.counted);
+      cells = rw (width, file.shaped.counted) file.shaped.few_cells;
     }
 
--- the cells that the second reading made, of a slice of the same columns
+-- what is known of such a file, where its cells are of the columns' kinds
+pub record Built (bytes : List ℕ) (row_count : ℕ) (columns : List Column) (left : List (List (List ℕ))) : Type 0 where
+  pub counted : row_count ≡ length left
+  pub schema : IsSchema columns
+  pub few : length left ≤ ROW_LIMIT
+  pub cells : length left * length columns ≤ CELL_LIMIT
+  pub spells : table_of bytes ≡ Ok (record { schema = columns; rows = map (values_from 0 columns) left })
+
+pub built : (bytes : List ℕ) (headings : List Heading) (row_count : ℕ) (survey : Survey) (columns : List Column)
+    (found : Bool) (fields : List (List ℕ)) (rows : List (List (List ℕ)))
+    → (file : IsSurveyedFile bytes headings row_count survey)
+    → columns ≡ columns_from 0 headings (take file.seen file.shaped.rows)
+    → records_of bytes ≡ (if found then fields ∷ rows else [])
+    → list_all (are_cells 0 columns) rows ≡ true → Built bytes row_count columns rows
+built bytes headings row_count survey columns found fields rows file made next fit =
+    let shaped = file.shaped in
+    let are = behind_header found shaped.header fields shaped.rows rows (sym shaped.reads ∙ next) in
+    let fits : list_all (are_cells 0 (columns_from 0 headings (take file.seen shaped.rows))) shaped.rows ≡ true =
+    rw (← made, ← are) fit in
+    let hold = columns_hold 0 headings file.seen shaped.rows (rw (← shaped.counted) file.some) fits in
+    let all : columns ≡ columns_from 0 headings shaped.rows = made ∙ hold in
+    let good : bad_cell 1 headings shaped.rows ≡ None = rows_stand 1 headings (take file.seen shaped.rows) shaped.rows fits in
+    let none : first_of (faults_of shaped.header shaped.rows) ≡ None =
+    shaped.first ∙ ap (option_map (λ at. BadCell at.0 at.1)) good in
+    let f = no_fault shaped.header shaped.rows none in
+    let same : columns ≡ columns_from 0 (map heading_of shaped.header) shaped.rows = rw (← shaped.headings_are) all in
+    let width : length (columns_from 0 (map heading_of shaped.header) shaped.rows) ≡ length shaped.header =
+    length-columns_from 0 (map heading_of shaped.header) shaped.rows ∙ length-map shaped.header heading_of in
+    record {
+      counted = shaped.counted ∙ ap length (sym are);
+      schema = rw same (is_schema shaped.header shaped.rows f);
+      few = rw are f.rows_few;
+      cells = rw (are, same, width) f.cells;
+      spells = rw (are, same) (spelled bytes shaped.header shaped.rows shaped.reads none);
+    }
+
+-- where the survey saw all rows and no bad cell, their cells are of the columns' kinds
+pub all_fit : (bytes : List ℕ) (headings : List Heading) (row_count : ℕ) (survey : Survey) (columns : List Column)
+    (found : Bool) (fields : List (List ℕ)) (rows : List (List (List ℕ)))
+    → (file : IsSurveyedFile bytes headings row_count survey)
+    → columns ≡ columns_from 0 headings (take file.seen file.shaped.rows)
+    → records_of bytes ≡ (if found then fields ∷ rows else [])
+    → survey.row_count ≡ row_count → survey.bad_cell ≡ None → list_all (are_cells 0 columns) rows ≡ true
+all_fit bytes headings row_count survey columns found fields rows file made next whole good =
+    let shaped = file.shaped in
+    let are = behind_header found shaped.header fields shaped.rows rows (sym shaped.reads ∙ next) in
+    let long : length (take file.seen shaped.rows) ≡ length shaped.rows =
+    sym file.survey_is.row_count ∙ (whole ∙ shaped.counted) in
+    let all : take file.seen shaped.rows ≡ shaped.rows = whole_front file.seen shaped.rows long in
+    let none : bad_cell 1 headings shaped.rows ≡ None = rw (← all) (sym file.survey_is.bad_cell ∙ good) in
+    rw (made, are, all) (rows_are_sound 1 headings shaped.rows shaped.rows none (λ k e. e))
+
+-- the cells that were read of a slice of these columns
 pub record Second (columns schema slice : List Column) (items : List Value) (left : List (List (List ℕ))) : Type 0 where
   pub schema_is : schema ≡ columns
   pub slice_is : slice ≡ columns
   pub items_are : items ≡ flat_map (values_from 0 slice) left
 
-pub kept : (bytes : List ℕ) (headings : List Heading) (survey : Survey) (columns schema slice : List Column)
-    (items : List Value) (left : List (List (List ℕ)))
-    → Built bytes headings survey columns left → Second columns schema slice items left
-    → IsKept schema survey.row_count items
-kept bytes headings survey columns schema slice items left k s =
-    rw (s.schema_is, s.items_are, s.slice_is, k.left_are, k.row_count) (is_kept columns k.rows k.schema k.few k.cells)
+pub kept : (bytes : List ℕ) (row_count : ℕ) (columns schema slice : List Column) (items : List Value)
+    (left : List (List (List ℕ)))
+    → Built bytes row_count columns left → Second columns schema slice items left → IsKept schema row_count items
+kept bytes row_count columns schema slice items left k s =
+    rw (s.schema_is, s.items_are, s.slice_is, k.counted) (is_kept columns left k.schema k.few k.cells)
 
-pub spells : (bytes : List ℕ) (headings : List Heading) (survey : Survey) (columns schema slice : List Column)
-    (items : List Value) (left : List (List (List ℕ)))
-    → Built bytes headings survey columns left → Second columns schema slice items left
-    → table_of bytes ≡ Ok (table_of_cells schema survey.row_count items)
-spells bytes headings survey columns schema slice items left k s =
-    rw (s.schema_is, s.items_are, s.slice_is, k.left_are, k.row_count, rows_of_cells columns k.rows) k.spells
+pub spells : (bytes : List ℕ) (row_count : ℕ) (columns schema slice : List Column) (items : List Value)
+    (left : List (List (List ℕ)))
+    → Built bytes row_count columns left → Second columns schema slice items left
+    → table_of bytes ≡ Ok (table_of_cells schema row_count items)
+spells bytes row_count columns schema slice items left k s =
+    rw (s.schema_is, s.items_are, s.slice_is, k.counted, rows_of_cells columns left) k.spells
 
 -- ---- what the readings say
 
 -- the header and the rows of a file, where its header and its shape have no fault
-pub record Read (bytes : List ℕ) (header : List (List ℕ)) (rows : List (List (List ℕ))) (headings : List Heading) : Type
-    0 where
-  pub reads : records_of bytes ≡ header ∷ rows
-  pub columns : length header ≤ COLUMN_LIMIT
-  pub names : bad_name 1 [] (map name_of header) ≡ None
-  pub headings_are : headings ≡ map heading_of header
-  pub shape : shape_faults (length rows) (length header) (uneven_row 1 (length header) rows) ≡ None
-
-pub cell_fault_is_first : (bytes : List ℕ) (header : List (List ℕ)) (rows : List (List (List ℕ)))
-    (headings : List Heading) (survey : Survey) (at : ℕ × ℕ)
-    → Read bytes header rows headings → IsSurvey headings rows survey → survey.bad_cell ≡ Some at
-    → first_of (faults_of header rows) ≡ Some (BadCell at.0 at.1)
-cell_fault_is_first bytes header rows headings survey at r s e =
-    cell_first header rows (Some at) r.columns r.names r.shape (rw r.headings_are at (sym s.bad_cell) ∙ e)
-
-pub sound_file : (bytes : List ℕ) (header : List (List ℕ)) (rows : List (List (List ℕ))) (headings : List Heading)
-    (survey : Survey)
-    → Read bytes header rows headings → IsSurvey headings rows survey → survey.bad_cell ≡ None
-    → IsSoundFile bytes headings survey
-sound_file bytes header rows headings survey r s e = record {
+pub shaped_file : (bytes : List ℕ) (header : List (List ℕ)) (rows : List (List (List ℕ))) (headings : List Heading)
+    (row_count : ℕ)
+    → records_of bytes ≡ header ∷ rows → length header ≤ COLUMN_LIMIT → bad_name 1 [] (map name_of header) ≡ None
+    → headings ≡ map heading_of header → row_count ≡ length rows
+    → shape_faults (length rows) (length header) (uneven_row 1 (length header) rows) ≡ None
+    → IsShapedFile bytes headings row_count
+shaped_file bytes header rows headings row_count reads columns names are counted shape = record {
   header = header;
   rows = rows;
-  reads = r.reads;
-  headings_are = r.headings_are;
-  survey_is = s;
-  sound = cell_first header rows None r.columns r.names r.shape (rw r.headings_are at (sym s.bad_cell) ∙ e);
+  reads = reads;
+  headings_are = are;
+  counted = counted;
+  few_columns = columns;
+  few_rows = few_rows (length rows) (length header) _ shape;
+  few_cells = few_cells (length rows) (length header) _ shape;
+  first = cell_first header rows (bad_cell 1 headings rows) columns names shape (rw are refl);
 }
+
+-- a bad cell that the survey of all rows found is the first fault
+pub cell_refused : (bytes : List ℕ) (headings : List Heading) (row_count : ℕ) (survey : Survey) (at : ℕ × ℕ)
+    → (file : IsSurveyedFile bytes headings row_count survey) → survey.row_count ≡ row_count
+    → survey.bad_cell ≡ Some at → table_of bytes ≡ Err (BadCell at.0 at.1)
+cell_refused bytes headings row_count survey at file whole bad =
+    let shaped = file.shaped in
+    let long : length (take file.seen shaped.rows) ≡ length shaped.rows =
+    sym file.survey_is.row_count ∙ (whole ∙ shaped.counted) in
+    let all : take file.seen shaped.rows ≡ shaped.rows = whole_front file.seen shaped.rows long in
+    let found : bad_cell 1 headings shaped.rows ≡ Some at = rw (← all) (sym file.survey_is.bad_cell ∙ bad) in
+    refused bytes shaped.header shaped.rows (BadCell at.0 at.1) shaped.reads
+    (shaped.first ∙ ap (option_map (λ at. BadCell at.0 at.1)) found)

@@ -124,6 +124,18 @@ few_rows row_count column_count uneven h =
     (if_none (nat_lt ROW_LIMIT row_count) Rows (first_is_none (fault_if (nat_lt ROW_LIMIT row_count) Rows)
     (fault_if (nat_lt CELL_LIMIT (row_count * column_count)) Cells ∷ option_map NotCsv uneven ∷ []) h))
 
+two_none : (a b : Option TableFault) (faults : List (Option TableFault)) → first_of (a ∷ b ∷ faults) ≡ None → b ≡ None
+two_none None b faults h = first_is_none b faults h
+two_none (Some fault) b faults h = cc
+
+pub few_cells : (row_count column_count : ℕ) (uneven : Option ℕ) → shape_faults row_count column_count uneven ≡ None
+    → row_count * column_count ≤ CELL_LIMIT
+few_cells row_count column_count uneven h =
+    not_above CELL_LIMIT (row_count * column_count)
+    (if_none (nat_lt CELL_LIMIT (row_count * column_count)) Cells
+    (two_none (fault_if (nat_lt ROW_LIMIT row_count) Rows)
+    (fault_if (nat_lt CELL_LIMIT (row_count * column_count)) Cells) (option_map NotCsv uneven ∷ []) h))
+
 -- an uneven row is one of the rows
 uneven_within : (n width : ℕ) (rows : List (List (List ℕ))) (number : ℕ) → uneven_row n width rows ≡ Some number
     → number < n + length rows

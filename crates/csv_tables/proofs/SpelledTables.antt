@@ -1,7 +1,7 @@
 -- What bytes spell is a table.
-use Rattle.std.proofs.Common.{◌≡◌, ◌∙◌, ℕ, List, [], ◌∷◌, length, map, Option, None, Some, Result, Ok, refl, subst}
+use Rattle.std.proofs.Common.{◌≡◌, ◌∙◌, ℕ, List, [], ◌∷◌, length, map, Option, None, Some, Ok, refl, subst}
 use Rattle.std.proofs.lemmas.List.{length-map}
-use Rattle.csv_tables.specs.Cells.{columns_from, values_from}
+use Rattle.csv_tables.specs.Cells.{columns_from}
 use Rattle.csv_tables.specs.Headers.{heading_of}
 use Rattle.csv_tables.specs.Reading.{records_of}
 use Rattle.csv_tables.specs.Spelled.{faults_of, first_of, table_of, table_of_records, table_under, unless}

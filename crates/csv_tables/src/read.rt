@@ -1,16 +1,16 @@
-//! Reading a table: its shape, its header, a survey of its rows, and only then their cells.
+//! Reading a table: its shape, its header, and then its cells.
 //!
-//! The bytes are read three times, since most faults and the kind of a column without a tag are
-//! known at the last
-//! row alone. Nothing is kept before the last reading, so that what is refused costs no memory. The
-//! one way in is
-//! `read_table`.
-ghost use Rattle.std.specs.Prelude.{◌≡◌, ◌≢◌, ◌≤◌, ◌∷◌, ◌*◌, [], nat_lt, Err, IfErr, IfOk, IfSome, List, Ok, length};
-ghost use Rattle.std.specs.Prelude.{option_map, ℕ};
+//! The shape of a file, by which most that is too large is refused, is found in no memory. Then the
+//! cells are read at once, each column in its tag's kind or else in that of its first cell: a column
+//! whose first cell is no number holds texts for certain. Where a later cell isn't of its column's
+//! kind, what was read is given back, a survey of all rows finds the kinds or the first bad cell,
+//! and the cells are read again. The one way in is `read_table`.
+ghost use Rattle.std.specs.Prelude.{◌≡◌, ◌≢◌, ◌≤◌, ◌∷◌, ◌*◌, [], nat_lt, Err, IfErr, IfOk, IfSome, List, None, Ok};
+ghost use Rattle.std.specs.Prelude.{is_some, length, option_map, true, ℕ};
 ghost use Rattle.row_values.specs.declared.columns.TheConstants.{COLUMN_LIMIT};
 ghost use Rattle.csv_tables.specs.Cells.{columns_from, kind_by};
 ghost use Rattle.csv_tables.specs.Spelled.{fault_if, first_of, table_of};
-ghost use Rattle.csv_tables.specs.Surveys.{IsSoundFile, IsSurvey};
+ghost use Rattle.csv_tables.specs.Surveys.{IsShapedFile, IsSurvey, IsSurveyedFile};
 ghost use Rattle.csv_tables.specs.declared.faults.TableFault.TheVariants.{Cells, Memory, NotCsv, Rows};
 ghost use Rattle.csv_tables.specs.declared.table.TheConstants.{CELL_LIMIT, ROW_LIMIT};
 
@@ -19,7 +19,7 @@ use crate::faults::TableFault;
 use crate::header::{Heading, read_header};
 use crate::records::Records;
 use crate::shape::{Shape, shape_of};
-use crate::survey::{Survey, survey_rows};
+use crate::survey::{Survey, survey_file};
 use crate::table::{CELL_LIMIT, ROW_LIMIT, Table};
 use csv::ByteRecord;
 use row_values::{COLUMN_LIMIT, Column, Kind, OutOfMemory, Schema};
@@ -72,26 +72,56 @@ fn fault_of_shape(column_count: usize, shape: &Shape) -> Option<TableFault>
     }
 }
 
-/// The table that a sound file spells.
+/// The table that a file spells, where each cell of a column is of the kind that a survey of its
+/// first rows shows; none where one isn't.
 fn build(
     alloc: Global,
     bytes: &[u8],
     headings: &[Heading],
+    row_count: usize,
     survey: &Survey,
-) -> Result<Table, OutOfMemory>
-    requires { IsSoundFile bytes.now headings.now survey.now }
-    ensures { IfOk result (λ table. table_of bytes.now ≡ Ok table) }
+) -> Result<Option<Table>, OutOfMemory>
+    requires { IsSurveyedFile bytes.now headings.now row_count survey.now }
+    ensures table { IfOk result (λ built. IfSome built (λ table. table_of bytes.now ≡ Ok table)) }
+    ensures whole { IfOk result (λ built. survey.now.row_count ≡ row_count → survey.now.bad_cell ≡ None
+        → is_some built ≡ true) }
 {
-    let row_count = survey.row_count as usize;
     let columns = columns(alloc, headings, survey)?;
     let mut row = ByteRecord::new(alloc);
     let mut records = Records::of(alloc, bytes);
     // The header, which stands in the headings already.
     let _ = records.next(&mut row)?;
-    let cells = read_cells(alloc, &columns, row_count, &mut records, &mut row)?;
+    let Some(cells) = read_cells(alloc, &columns, row_count, &mut records, &mut row)? else {
+        return Ok(None);
+    };
     let schema = Schema::of(columns).unwrap();
     let table = Table::of(alloc, schema, row_count, cells)?;
-    Ok(table)
+    Ok(Some(table))
+}
+
+/// The table that a file with a sound header and shape spells, or its first bad cell.
+fn read_shaped(
+    alloc: Global,
+    bytes: &[u8],
+    headings: &[Heading],
+    row_count: usize,
+) -> Result<Table, TableFault>
+    requires { IsShapedFile bytes.now headings.now row_count }
+    ensures table { IfOk result (λ table. table_of bytes.now ≡ Ok table) }
+    ensures fault { IfErr result (λ fault. fault ≢ Memory → table_of bytes.now ≡ Err fault) }
+{
+    let first = survey_file(alloc, bytes, headings, row_count, 1)?;
+    if let Some(table) = build(alloc, bytes, headings, row_count, &first)? {
+        return Ok(table);
+    }
+    let whole = survey_file(alloc, bytes, headings, row_count, row_count.max(1))?;
+    if let Some((number, column)) = whole.bad_cell {
+        return Err(TableFault::BadCell(number, column));
+    }
+    match build(alloc, bytes, headings, row_count, &whole)? {
+        Some(table) => Ok(table),
+        None => unreachable!(),
+    }
 }
 
 /// The table that bytes of CSV spell, or the first fault that they have; see `TableFault` for the
@@ -119,10 +149,6 @@ pub fn read_table(alloc: Global, bytes: &[u8]) -> Result<Table, TableFault>
     if let Some(fault) = fault_of_shape(column_count, &shape) {
         return Err(fault);
     }
-    let survey = survey_rows(alloc, &headings, shape.row_count, &mut records, &mut row)?;
-    if let Some((number, column)) = survey.bad_cell {
-        return Err(TableFault::BadCell(number, column));
-    }
-    let table = build(alloc, bytes, &headings, &survey)?;
+    let table = read_shaped(alloc, bytes, &headings, shape.row_count)?;
     Ok(table)
 }

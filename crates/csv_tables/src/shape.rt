@@ -180,6 +180,10 @@ impl Count {
         ensures rows { result.shape.row_count ≤ self.shape.row_count + 1 }
         ensures fields { result.field_count ≤ self.field_count + 1 }
     {
+        // Most bytes stand within a field and end nothing: no byte above a comma does.
+        if self.state == ScanState::InField && byte > b',' {
+            return self;
+        }
         let (state, end) = after_byte(self.state, byte);
         match end {
             End::Nothing => Count {

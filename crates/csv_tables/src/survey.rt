@@ -1,15 +1,15 @@
-//! A first reading of the data rows, which are as long as the header: the first bad cell, and which
-//! columns hold
-//! nothing but numbers.
+//! A reading of the first data rows, which are as long as the header: the first bad cell, and which
+//! columns hold nothing but numbers.
 //!
-//! It keeps no cell. The one way in is `survey_rows`.
-ghost use Rattle.std.specs.Prelude.{◌≡◌, ◌≤◌, ◌<◌, ◌&&◌, IfOk, length};
+//! It keeps no cell. The one way in is `survey_file`.
+ghost use Rattle.std.specs.Prelude.{◌≡◌, ◌≤◌, ◌<◌, ◌&&◌, IfOk, length, min, take};
 ghost use Rattle.std.specs.Str.{is_utf8};
 ghost use Rattle.csv.specs.Records.{fields_of};
 ghost use Rattle.row_values.specs.declared.columns.TheConstants.{COLUMN_LIMIT};
 ghost use Rattle.csv_tables.specs.Cells.{bad_column, may_stand};
 ghost use Rattle.csv_tables.specs.Numbers.{is_whole_number};
-ghost use Rattle.csv_tables.specs.Surveys.{IsNew, IsSurvey, Notes, numbers_after};
+ghost use Rattle.csv_tables.specs.Surveys.{IsNew, IsShapedFile, IsSurvey, IsSurveyedFile, Notes};
+ghost use Rattle.csv_tables.specs.Surveys.{numbers_after};
 ghost use Rattle.csv_tables.specs.declared.table.TheConstants.{ROW_LIMIT};
 
 use crate::header::{Heading, field};
@@ -19,7 +19,7 @@ use row_values::{Kind, OutOfMemory, whole_number};
 use std::alloc::Global;
 use std::str;
 
-/// What the first reading found.
+/// What such a reading found.
 #[derive(Debug, Drop)]
 pub(crate) struct Survey {
     pub(crate) row_count: u32,
@@ -106,18 +106,17 @@ impl Survey {
     }
 }
 
-/// The survey of the records that are left, of which there are so many.
-pub(crate) fn survey_rows(
+/// The survey of the first so many of the records that are left.
+fn survey_rows(
     alloc: Global,
     headings: &[Heading],
     row_count: usize,
     records: &mut Records<'_>,
     row: &mut ByteRecord,
 ) -> Result<Survey, OutOfMemory>
-    requires count { length records.old ≡ row_count }
     requires few { row_count ≤ ROW_LIMIT }
     requires columns { length headings.now ≤ COLUMN_LIMIT }
-    ensures { IfOk result (λ survey. IsSurvey headings.now records.old survey) }
+    ensures { IfOk result (λ survey. IsSurvey headings.now (take row_count records.old) survey) }
 {
     let mut survey = Survey::new(alloc, headings.len())?;
     for _ in 0..row_count {
@@ -126,5 +125,26 @@ pub(crate) fn survey_rows(
         }
         survey.note(headings, row);
     }
+    Ok(survey)
+}
+
+/// The survey of the first rows of a file: of so many, or of all.
+pub(crate) fn survey_file(
+    alloc: Global,
+    bytes: &[u8],
+    headings: &[Heading],
+    row_count: usize,
+    seen: usize,
+) -> Result<Survey, OutOfMemory>
+    requires shaped { IsShapedFile bytes.now headings.now row_count }
+    requires some { 1 ≤ seen }
+    ensures survey { IfOk result (λ survey. IsSurveyedFile bytes.now headings.now row_count survey) }
+    ensures count { IfOk result (λ survey. survey.row_count ≡ min seen row_count) }
+{
+    let mut row = ByteRecord::new(alloc);
+    let mut records = Records::of(alloc, bytes);
+    // The header, which stands in the headings already.
+    let _ = records.next(&mut row)?;
+    let survey = survey_rows(alloc, headings, seen.min(row_count), &mut records, &mut row)?;
     Ok(survey)
 }

@@ -1,4 +1,4 @@
-use Rattle.std.proofs.Common.{◌≡◌, ◌++◌, drop, true}
+use Rattle.std.proofs.Common.{◌≡◌, ◌++◌, drop}
 use Rattle.csv.specs.Records.{fields_of}
 use Rattle.csv_tables.specs.Cells.{are_cells, values_from}
 use Rattle.csv_tables.proofs.cells.push_row.Given as goal
@@ -8,5 +8,5 @@ abbrev pub invariant-loop-column : goal.invariant-loop-column
 invariant-loop-column l = record {
   pushed : l.cells.items ++ values_from l.column (drop l.column l.columns) (fields_of l.row)
       ≡ l.fn.cells.items ++ values_from 0 l.columns (fields_of l.row);
-  sound : are_cells l.column (drop l.column l.columns) (fields_of l.row) ≡ true;
+  fits : are_cells l.column (drop l.column l.columns) (fields_of l.row) ≡ are_cells 0 l.columns (fields_of l.row);
 }

@@ -1,12 +1,10 @@
 use Rattle.std.proofs.Common.{◌∙◌, length, sym}
-use Rattle.std.proofs.lemmas.List.{length-map}
 use Rattle.std.proofs.lemmas.Result.{err_from_is_err_and}
 use Rattle.csv.specs.Records.{fields_of}
-use Rattle.csv_tables.specs.Headers.{heading_of}
 use Rattle.csv_tables.specs.Reading.{records_of}
 use Rattle.csv_tables.specs.declared.faults.TableFault.TheVariants.{Columns}
-use Rattle.csv_tables.proofs.Sound.{Read, cell_fault_is_first, sound_file}
-use Rattle.csv_tables.proofs.Spelled.{columns_first, few_rows, first_read, name_first, no_header, none_counted, refused}
+use Rattle.csv_tables.proofs.Sound.{shaped_file}
+use Rattle.csv_tables.proofs.Spelled.{columns_first, first_read, name_first, no_header, none_counted, refused}
 use Rattle.csv_tables.proofs.Spelled.{shape_first, some_counted, uneven_fits}
 use Rattle.csv_tables.proofs.read.read_table.Goals as goal
 
@@ -70,18 +68,8 @@ returns-in-Some-fault_of_shape-clause-fault c _ =
     (shape_first (fields_of c.next.new.row) c.next.new.self c.in-Some-fault_of_shape.fault few
     c.in_ok-headings.ensures.ok.1 is)
 
-pub survey_rows-requires-clause-count : goal.survey_rows-requires-clause-count
-survey_rows-requires-clause-count c =
-    let headed = some_counted (records_of c.args.bytes.now) c.shape_of-shape.result c.in-Some.column_count
-    c.shape_of-shape.ensures c.in-Some.is in
-    let first = first_read (records_of c.args.bytes.now) c.shape_of-shape.result c.in-Some.column_count
-    c.in_ok-next.field-0 (fields_of c.next.new.row) c.next.new.self headed
-    (sym c.of-records.ensures ∙ c.in_ok-next.ensures) in
-    let few = rw first.width_is at c.if-column_count-gt-COLUMN_LIMIT.false in
-    sym first.shape_is.row_count
-
-pub survey_rows-requires-clause-few : goal.survey_rows-requires-clause-few
-survey_rows-requires-clause-few c =
+pub read_shaped-requires : goal.read_shaped-requires
+read_shaped-requires c =
     let headed = some_counted (records_of c.args.bytes.now) c.shape_of-shape.result c.in-Some.column_count
     c.shape_of-shape.ensures c.in-Some.is in
     let first = first_read (records_of c.args.bytes.now) c.shape_of-shape.result c.in-Some.column_count
@@ -90,60 +78,7 @@ survey_rows-requires-clause-few c =
     let few = rw first.width_is at c.if-column_count-gt-COLUMN_LIMIT.false in
     let none = rw (first.shape_is.row_count, first.shape_is.uneven, first.width_is) at (sym c.fault_of_shape.ensures
     ∙ c.in_default-fault_of_shape.is) in
-    rw first.shape_is.row_count (few_rows _ _ _ none)
-
-pub survey_rows-requires-clause-columns : goal.survey_rows-requires-clause-columns
-survey_rows-requires-clause-columns c =
-    let headed = some_counted (records_of c.args.bytes.now) c.shape_of-shape.result c.in-Some.column_count
-    c.shape_of-shape.ensures c.in-Some.is in
-    let first = first_read (records_of c.args.bytes.now) c.shape_of-shape.result c.in-Some.column_count
-    c.in_ok-next.field-0 (fields_of c.next.new.row) c.next.new.self headed
-    (sym c.of-records.ensures ∙ c.in_ok-next.ensures) in
-    let few = rw first.width_is at c.if-column_count-gt-COLUMN_LIMIT.false in
-    rw (c.deref.ensures.value, c.in_ok-headings.ensures.ok.0, length-map (fields_of c.next.new.row) heading_of) few
-
-pub returns-in-Some-bad_cell-clause-fault : goal.returns-in-Some-bad_cell-clause-fault
-returns-in-Some-bad_cell-clause-fault c _ =
-    let headed = some_counted (records_of c.args.bytes.now) c.shape_of-shape.result c.in-Some.column_count
-    c.shape_of-shape.ensures c.in-Some.is in
-    let first = first_read (records_of c.args.bytes.now) c.shape_of-shape.result c.in-Some.column_count
-    c.in_ok-next.field-0 (fields_of c.next.new.row) c.next.new.self headed
-    (sym c.of-records.ensures ∙ c.in_ok-next.ensures) in
-    let few = rw first.width_is at c.if-column_count-gt-COLUMN_LIMIT.false in
-    let none = rw (first.shape_is.row_count, first.shape_is.uneven, first.width_is) at (sym c.fault_of_shape.ensures
-    ∙ c.in_default-fault_of_shape.is) in
-    let file : Read c.args.bytes.now (fields_of c.next.new.row) c.next.new.self c.in_ok-headings.headings.items =
-    record {
-      reads = first.are;
-      columns = few;
-      names = c.in_ok-headings.ensures.ok.1;
-      headings_are = c.in_ok-headings.ensures.ok.0;
-      shape = none;
-    } in
-    let found = rw c.deref.ensures.value at c.in_ok-survey.ensures in
-    refused c.args.bytes.now (fields_of c.next.new.row) c.next.new.self _ first.are
-    (cell_fault_is_first c.args.bytes.now (fields_of c.next.new.row) c.next.new.self c.in_ok-headings.headings.items
-    c.in_ok-survey.survey (c.in-Some-bad_cell.number, c.in-Some-bad_cell.column) file found c.in-Some-bad_cell.is)
-
-pub build-requires : goal.build-requires
-build-requires c =
-    let headed = some_counted (records_of c.args.bytes.now) c.shape_of-shape.result c.in-Some.column_count
-    c.shape_of-shape.ensures c.in-Some.is in
-    let first = first_read (records_of c.args.bytes.now) c.shape_of-shape.result c.in-Some.column_count
-    c.in_ok-next.field-0 (fields_of c.next.new.row) c.next.new.self headed
-    (sym c.of-records.ensures ∙ c.in_ok-next.ensures) in
-    let few = rw first.width_is at c.if-column_count-gt-COLUMN_LIMIT.false in
-    let none = rw (first.shape_is.row_count, first.shape_is.uneven, first.width_is) at (sym c.fault_of_shape.ensures
-    ∙ c.in_default-fault_of_shape.is) in
-    let file : Read c.args.bytes.now (fields_of c.next.new.row) c.next.new.self c.in_ok-headings.headings.items =
-    record {
-      reads = first.are;
-      columns = few;
-      names = c.in_ok-headings.ensures.ok.1;
-      headings_are = c.in_ok-headings.ensures.ok.0;
-      shape = none;
-    } in
-    let found = rw c.deref.ensures.value at c.in_ok-survey.ensures in
-    rw c.deref-2.ensures.value
-    (sound_file c.args.bytes.now (fields_of c.next.new.row) c.next.new.self c.in_ok-headings.headings.items
-    c.in_ok-survey.survey file found c.in_default-bad_cell.is)
+    rw c.deref.ensures.value
+    (shaped_file c.args.bytes.now (fields_of c.next.new.row) c.next.new.self c.in_ok-headings.headings.items
+    c.shape_of-shape.result.row_count first.are few c.in_ok-headings.ensures.ok.1 c.in_ok-headings.ensures.ok.0
+    first.shape_is.row_count none)
