@@ -5,6 +5,7 @@ use Rattle.std.specs.List.{count_by, filter, slice_range}
 use Rattle.std.specs.List.Sorted.{IsPartitionPoint}
 use Rattle.std.proofs.lemmas.Bool.{false≢true}
 use Rattle.std.proofs.lemmas.List.Sums.{length-filter}
+use Rattle.table_index.specs.Cuts.{Cut}
 
 and_no : (a : Bool) → (a && false) ≡ false
 and_no true = refl
@@ -18,12 +19,14 @@ fails : (a : Bool) → not a ≡ true → a ≡ false
 fails true h = absurd (false≢true h)
 fails false h = refl
 
--- so many elements at the front pass a test, and none behind them does
-abbrev pub Cut : {X : Type 0} → (X → Bool) → List X → ℕ → Type 0
-Cut p [] zero = Unit {0}
-Cut p [] (suc k) = ⊥
-Cut p (x ∷ xs) zero = (p x ≡ false) × Cut p xs zero
-Cut p (x ∷ xs) (suc k) = (p x ≡ true) × Cut p xs k
+-- where all elements fail a test, it cuts before the first, and where all pass, behind the last
+pub cut_none : {X : Type 0} (p : X → Bool) (xs : List X) → ((x : X) → p x ≡ false) → Cut p xs 0
+cut_none p [] h = tt
+cut_none p (x ∷ xs) h = (h x, cut_none p xs h)
+
+pub cut_all : {X : Type 0} (p : X → Bool) (xs : List X) → ((x : X) → p x ≡ true) → Cut p xs (length xs)
+cut_all p [] h = tt
+cut_all p (x ∷ xs) h = (h x, cut_all p xs h)
 
 -- what `partition_point` finds is a cut
 pub cut_from_point : {X : Type 0} (p : X → Bool) (xs : List X) (k : ℕ) → k ≤ length xs

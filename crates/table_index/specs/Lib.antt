@@ -1,4 +1,5 @@
 pub mod Bounds
+pub mod Cuts
 pub mod Distinct
 pub mod Indexes
 pub mod StatementIndexes

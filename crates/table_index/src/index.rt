@@ -6,8 +6,9 @@ ghost use Rattle.std.specs.Prelude.{◌≡◌, ◌<◌, ◌≤◌, IfOk, filter,
 ghost use Rattle.std.specs.List.{count_by};
 ghost use Rattle.csv_tables.specs.Tables.{AreNumbers};
 ghost use Rattle.table_index.specs.Bounds.{FitsColumn, lies_below, lies_up_to, lies_within};
+ghost use Rattle.table_index.specs.Cuts.{Cut};
 ghost use Rattle.table_index.specs.Distinct.{distinct_in};
-ghost use Rattle.table_index.specs.Indexes.{IsBuilt, rows_in_order};
+ghost use Rattle.table_index.specs.Indexes.{AreOrdered, IsBuilt, rows_in_order};
 
 use crate::bounds::{Bound, meets_high, meets_low};
 use crate::distinct::distinct_rows;
@@ -31,6 +32,37 @@ impl Model for Index {
     ghost Value = { IndexValue };
 
     ghost view = { λ index. record { column = index.column; rows = index.rows.items } };
+}
+
+/// How many of these rows, which stand in the order of a column, lie below a low end: they stand at
+/// the front. Nothing is looked up where there is no such end.
+fn count_below(t: &Table, column: usize, rows: &[u32], low: Bound<'_>) -> usize
+    requires column { column < length t.now.schema }
+    requires ordered { AreOrdered t.now column rows.now }
+    requires fits { FitsColumn t.now column low }
+    ensures cut { Cut (lies_below t.now column low.entry) rows.now result }
+    ensures bound { result ≤ length rows.now }
+{
+    if let Bound::Free = low {
+        return 0;
+    }
+    let numbers = t.numbers(column);
+    rows.partition_point(|row| !meets_low(t, column, numbers, low, *row))
+}
+
+/// How many of these rows, which stand in the order of a column, don't lie above a high end.
+fn count_up_to(t: &Table, column: usize, rows: &[u32], high: Bound<'_>) -> usize
+    requires column { column < length t.now.schema }
+    requires ordered { AreOrdered t.now column rows.now }
+    requires fits { FitsColumn t.now column high }
+    ensures cut { Cut (lies_up_to t.now column high.entry) rows.now result }
+    ensures bound { result ≤ length rows.now }
+{
+    if let Bound::Free = high {
+        return rows.len();
+    }
+    let numbers = t.numbers(column);
+    rows.partition_point(|row| meets_high(t, column, numbers, high, *row))
 }
 
 impl Index {
@@ -73,10 +105,9 @@ impl Index {
             ≡ filter (lies_within t.now self.now.column lo.entry hi.entry) self.now.rows }
     {
         let column = usize::from(self.column);
-        let numbers = t.numbers(column);
         let rows = self.rows.as_slice();
-        let first = rows.partition_point(|row| !meets_low(t, column, numbers, lo, *row));
-        let end = rows.partition_point(|row| meets_high(t, column, numbers, hi, *row));
+        let first = count_below(t, column, rows, lo);
+        let end = count_up_to(t, column, rows, hi);
         (first, end.max(first))
     }
 
