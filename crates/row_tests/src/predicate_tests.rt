@@ -5,7 +5,7 @@
 ghost use Rattle.std.specs.Prelude.{◌≡◌, ℕ, [], IfOk, IfSome, false, length, slice_get, slice_index_or};
 ghost use Rattle.std.specs.Option.{option_map_or};
 ghost use Rattle.csv_tables.specs.Tables.{AreNumbers};
-ghost use Rattle.statement_meaning.specs.Conditions.{holds, row_passes};
+ghost use Rattle.statement_meaning.specs.Conditions.{holds, meets, row_passes};
 ghost use Rattle.row_tests.specs.Ready.{ready_holds, all_hold};
 ghost use Rattle.row_tests.specs.NumberTests.{number_holds};
 
@@ -95,18 +95,27 @@ fn number_meets(numbers: &[i64], row: usize, range: NumberRange) -> bool
     range.holds(numbers[row])
 }
 
-/// Whether a row meets a ready predicate.
-#[inline]
+/// Whether the cell of a row in this column is there and meets a test. It stands apart, so that
+/// what calls it for other columns stays short.
+#[inline(never)]
 #[tactic(auto, using(crate::proofs::NoCell::no_cell_meets))]
+fn cell_meets(table: &Table, row: usize, args: &[Value], column: usize, test: &Test) -> bool
+    ensures { result ≡ meets args.now test.now (slice_get (slice_index_or table.now.rows row []) column) }
+{
+    match cell_in(table, row, column) {
+        Some(cell) => meets_test(args, test, cell),
+        None => false,
+    }
+}
+
+/// Whether a row meets a ready predicate.
+#[inline(always)]
 pub fn row_meets(table: &Table, row: usize, args: &[Value], ready: Ready) -> bool
     ensures { result ≡ ready_holds args.now table.now ready.entry row }
 {
     match ready {
         Ready::Numbers(numbers, range) => number_meets(numbers, row, range),
-        Ready::Cells(column, test) => match cell_in(table, row, column) {
-            Some(cell) => meets_test(args, test, cell),
-            None => false,
-        },
+        Ready::Cells(column, test) => cell_meets(table, row, args, column, test),
     }
 }
 
