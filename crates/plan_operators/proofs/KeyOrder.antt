@@ -15,7 +15,8 @@ use Rattle.row_values.specs.Orders.{cell_order, compares, value_order}
 use Rattle.row_values.specs.declared.values.Value.{Value}
 use Rattle.row_values.specs.declared.values.Value.TheVariants.{Int, Text}
 use Rattle.row_values.proofs.TotalOrders.{cell_order_total, value_order_total}
-use Rattle.table_index.proofs.Cuts.{Cut, between_cuts}
+use Rattle.table_index.specs.Cuts.{Cut}
+use Rattle.table_index.proofs.Cuts.{between_cuts}
 
 -- equal is neither below nor above
 both_ends : (o : Ordering) → is_eq (ordering_reverse o) ≡ (is_ge o && is_le o)

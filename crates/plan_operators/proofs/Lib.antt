@@ -4,4 +4,5 @@ pub mod Joins
 pub mod KeyOrder
 pub mod KeyRanks
 pub mod PlaceRows
+pub mod Placing
 pub mod Scanned

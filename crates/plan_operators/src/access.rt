@@ -35,7 +35,8 @@ pub fn access_rows(
     }
 }
 
-/// The combinations over one place that have these rows there.
+/// The combinations over one place that have these rows there. Each gets its row where it stands:
+/// one that is written in part and then copied whole waits for its own store.
 pub(crate) fn placed_rows(
     alloc: Global,
     source: &Source<'_>,
@@ -46,10 +47,9 @@ pub(crate) fn placed_rows(
 {
     let none = Combo::zeros(source.q.places().len());
     let mut combos = Vec::with_capacity(alloc, rows.len())?;
-    for row in rows {
-        let mut combo = none;
-        combo.put(place, *row);
-        combos.push(combo)?;
+    for (position, row) in rows.iter().enumerate() {
+        combos.push(none)?;
+        combos[position].put(place, *row);
     }
     Ok(combos)
 }
