@@ -15,7 +15,8 @@ use crate::plain::{are_in_order, count_all, try_all};
 use csv_tables::Table;
 use plan_operators::{Combos, ascending_keys, run_plan};
 use plan_trees::{Indexed, Stats, Top, Vector, read_plan, valid};
-use result_shape::{Rows, finish, row_text};
+use pull_operators::Pull;
+use result_shape::{Pushed, Rows, Shaper, finish, row_text};
 use row_values::{ColRef, PLACE_LIMIT, Pred, Query, Value};
 use selectivity_counts::{count, stats, vector};
 use std::alloc::Global;
@@ -23,6 +24,9 @@ use std::marker::Model;
 use std::rc::Rc;
 use table_index::{Index, index_of, indexes_over};
 use worked_statements::USUAL;
+
+/// More combinations than a worked example has.
+const PULL_LIMIT: u32 = u32::MAX;
 
 /// A statement over its tables, with indexes, arguments and statistics that are its own; contracts see what it asks.
 #[derive(Debug, Drop)]
@@ -136,6 +140,53 @@ impl WorkedStatement {
         Ok(combos)
     }
 
+    /// The plan which the text spells, to be pulled.
+    pub fn pull(&self, alloc: Global, plan: &str) -> Result<Pull<'_>, WorkedFault>
+        ensures { IfOk result (λ pull. in_order is_lower pull
+            ≡ kept_combinations self.now.statement self.now.tables self.now.args) }
+    {
+        let plan = read_valid(alloc, &self.query, self.stats.indexed(), plan)?;
+        let pull = Pull::begin(
+            alloc,
+            &self.query,
+            &self.tables,
+            &self.indexes,
+            &self.args,
+            &plan,
+        )?;
+        Ok(pull)
+    }
+
+    /// The first combinations, at most so many, that the plan gives when it is pulled which the text spells.
+    pub fn pulled(&self, alloc: Global, plan: &str, most: usize) -> Result<Combos, WorkedFault> {
+        let mut pull = self.pull(alloc, plan)?;
+        let mut combos = Combos::new(alloc);
+        for _ in 0..most {
+            match pull.next()? {
+                Some(combo) => combos.push(combo)?,
+                None => return Ok(combos),
+            }
+        }
+        Ok(combos)
+    }
+
+    /// The result rows of what the plan gives when it is pulled which the text spells: no list of it is made.
+    pub fn pulled_rows(&self, alloc: Global, plan: &str) -> Result<Rows, WorkedFault> {
+        let q = &self.query;
+        let mut pull = self.pull(alloc, plan)?;
+        let mut shaper = Shaper::begin(alloc, q, &self.tables)?;
+        for _pushed in 0..PULL_LIMIT {
+            let Some(combo) = pull.next()? else {
+                return Ok(shaper.end(q)?);
+            };
+            match shaper.push(q, &combo)? {
+                Pushed::More => {}
+                Pushed::TooManyRows => return Err(WorkedFault::TooManyRows),
+            }
+        }
+        Err(WorkedFault::TooManyRows)
+    }
+
     /// The combinations that the statement keeps, in the order of FROM, found by trying all.
     pub fn tried(&self, alloc: Global) -> Result<Combos, WorkedFault> {
         Ok(try_all(alloc, &self.query, &self.tables, &self.args)?)
@@ -155,17 +206,23 @@ impl WorkedStatement {
         Ok(finish(alloc, &self.query, &self.tables, combos)?)
     }
 
-    /// The lines of the result rows that the plan gives which the text spells, joined by `; `.
-    pub fn lines(&self, alloc: Global, plan: &str) -> Result<String, WorkedFault> {
-        let rows = self.rows(alloc, self.run(alloc, plan)?)?;
+    /// The lines of these result rows, joined by `; `.
+    pub fn lines_of(&self, alloc: Global, rows: &Rows) -> Result<String, WorkedFault> {
         let mut text = String::new(alloc);
         for i in 0..rows.len() {
             if i != 0 {
                 text.push_str("; ")?;
             }
-            text.push_str(row_text(alloc, &self.query, &rows, i)?.as_str())?;
+            text.push_str(row_text(alloc, &self.query, rows, i)?.as_str())?;
         }
         Ok(text)
+    }
+
+    /// The lines of the result rows that the plan gives which the text spells, joined by `; `.
+    pub fn lines(&self, alloc: Global, plan: &str) -> Result<String, WorkedFault> {
+        let combos = self.run(alloc, plan)?;
+        let rows = self.rows(alloc, combos)?;
+        self.lines_of(alloc, &rows)
     }
 
     /// The selectivity vector for the arguments.

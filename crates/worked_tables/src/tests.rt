@@ -1,10 +1,16 @@
-//! Plans of each form, compared with trying all combinations.
+//! Plans of each form, compared with trying all combinations, and the examples that documents work by hand.
+mod access_paths;
+mod examples;
 mod joins;
+mod large_tables;
 
-use crate::{WorkedTables, numbers};
+use crate::{WorkedStatement, WorkedTables, numbers};
 use std::alloc::Global;
 use std::process::Abort;
 use std::test::Fail;
+
+/// More combinations than any case has.
+const MANY: usize = 1_000_000;
 
 /// Tables with keys that stand more than once, and one without a row.
 const TEXTS: [(&str, &str); 5] = [
@@ -24,7 +30,33 @@ fn whole_numbers(alloc: Global, words: &str) -> Result<Vec<i64>, Fail> {
     Ok(list)
 }
 
-/// Each plan of a case gives the combinations that trying all gives, each once; where asked for, in the wanted order.
+/// The plan gives these combinations, each once, all at once and one at a time; where asked for, in the wanted order.
+fn gives(
+    rt: &impl Abort,
+    alloc: Global,
+    s: &WorkedStatement,
+    plan: &str,
+    is_ordered: bool,
+    want: &str,
+    what: &str,
+) -> Result<(), Fail> {
+    let run = s.run(alloc, plan)?;
+    let given = numbers(alloc, &run)?;
+    assert_eq!(rt; given.as_str(), want, "{what}: {plan}");
+    let pulled = s.pulled(alloc, plan, MANY)?;
+    let given = numbers(alloc, &pulled)?;
+    assert_eq!(rt; given.as_str(), want, "{what}, pulled: {plan}");
+    if is_ordered {
+        assert!(rt; s.is_in_order(alloc, &run)?, "{what}, in order: {plan}");
+        assert!(rt;
+            s.is_in_order(alloc, &pulled)?,
+            "{what}, pulled in order: {plan}"
+        );
+    }
+    Ok(())
+}
+
+/// Each plan of a case gives the combinations that trying all gives; where asked for, in the wanted order.
 fn case_agrees(
     rt: &impl Abort,
     alloc: Global,
@@ -40,11 +72,7 @@ fn case_agrees(
     let s = tables.of(alloc, sql, indexed, &arguments)?;
     let tried = numbers(alloc, &s.tried(alloc)?)?;
     for plan in lines {
-        let combos = s.run(alloc, plan)?;
-        let given = numbers(alloc, &combos)?;
-        assert_eq!(rt; given.as_str(), tried.as_str(), "{what}: {plan}");
-        let stands = !is_ordered || s.is_in_order(alloc, &combos)?;
-        assert!(rt; stands, "{what}, in order: {plan}");
+        gives(rt, alloc, &s, plan, is_ordered, tried.as_str(), what)?;
     }
     Ok(())
 }
