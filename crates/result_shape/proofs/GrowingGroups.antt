@@ -92,7 +92,7 @@ module _ (tables : List (List (List Value))) (q : Statement) where
   cmp = keys_order tables (group_keys q.groups)
 
   -- what is in the class of a head adds none
-  no_more_heads : (h fs : List (List ℕ)) (c : List ℕ) → HaveSame is_same (heads same h) fs
+  pub no_more_heads : (h fs : List (List ℕ)) (c : List ℕ) → HaveSame is_same (heads same h) fs
       → (All (λ f. same f c ≡ false) fs → ⊥) → heads same (h ++ c ∷ []) ≡ heads same h
   no_more_heads h fs c k some =
       heads_push same h c
@@ -112,22 +112,22 @@ module _ (tables : List (List (List Value))) (q : Statement) where
       heads_cover same (same_group_equivalence tables q.groups) c h
       (all_of_same is_same exact_lists (λ x. same x c ≡ false) fs (heads same h) (λ m. sym (k m)) none)
 
-  one_more_head : (h : List (List ℕ)) (c : List ℕ) → All (λ x. same x c ≡ false) h
+  pub one_more_head : (h : List (List ℕ)) (c : List ℕ) → All (λ x. same x c ≡ false) h
       → heads same (h ++ c ∷ []) ≡ heads same h ++ c ∷ []
   one_more_head h c none =
       heads_push same h c
       ∙ ap (λ (b : Bool). heads same h ++ cond b [] (c ∷ [])) (list_any_none (λ x. same x c) h none)
 
-  more_members : (f c : List ℕ) (h : List (List ℕ)) (b : Bool) → same f c ≡ b
+  pub more_members : (f c : List ℕ) (h : List (List ℕ)) (b : Bool) → same f c ≡ b
       → filter (same f) (h ++ c ∷ []) ≡ filter (same f) h ++ cond b (c ∷ []) []
   more_members f c h b e =
       filter-append (same f) h (c ∷ []) ∙ ap (λ (k : Bool). filter (same f) h ++ cond k (c ∷ []) []) e
 
-  same_members : (f c : List ℕ) (h : List (List ℕ)) → same f c ≡ false
+  pub same_members : (f c : List ℕ) (h : List (List ℕ)) → same f c ≡ false
       → filter (same f) (h ++ c ∷ []) ≡ filter (same f) h
   same_members f c h e = more_members f c h false e ∙ append-nil (filter (same f) h)
 
-  no_members : (f : List ℕ) (h : List (List ℕ)) → All (λ x. same x f ≡ false) h → filter (same f) h ≡ []
+  pub no_members : (f : List ℕ) (h : List (List ℕ)) → All (λ x. same x f ≡ false) h → filter (same f) h ≡ []
   no_members f [] a = refl
   no_members f (x ∷ xs) a =
       ap (λ (b : Bool). cond b (x ∷ filter (same f) xs) (filter (same f) xs))
@@ -287,7 +287,7 @@ module _ (tables : List (List (List Value))) (q : Statement) where
           by_bool true x y = omega arith
           by_bool false x y = omega arith
 
-kept_few : {X : Type 0} (p : X → Bool) (xs : List X) → length (filter p xs) ≤ length xs
+pub kept_few : {X : Type 0} (p : X → Bool) (xs : List X) → length (filter p xs) ≤ length xs
 kept_few p [] = omega arith
 kept_few p (x ∷ xs) = by_test (p x) (kept_few p xs)
   where

@@ -1,4 +1,5 @@
 pub mod GrowingGroups
+pub mod Numbering
 pub mod Places
 pub mod RunPlaces
 pub mod Shapes

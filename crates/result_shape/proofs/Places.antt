@@ -1,7 +1,7 @@
 -- Where a combination goes among groups: what a search by halving finds, and the parts of a list at an index.
 use Rattle.std.proofs.Common.{ℕ, zero, suc, ◌≡◌, ◌<◌, ◌≤◌, ◌+◌, ◌-◌, ◌++◌, List, [], ◌∷◌, length, map, get_or, set, take, drop}
 use Rattle.std.proofs.Common.{ap, sym, ◌∙◌, refl, arith, subst, length-take, length-drop, min}
-use Rattle.std.specs.Prelude.{All, OnErr, Result, Ok, Err}
+use Rattle.std.specs.Prelude.{All, OnErr, OnOk, Result, Ok, Err}
 use Rattle.std.specs.List.{AllWithin, insert}
 use Rattle.std.specs.List.Sorted.{IsNonDecreasingBy, IsPartitionPoint, IsStrictlySortedBy}
 use Rattle.std.specs.Ordering.{ordering_index}
@@ -119,3 +119,8 @@ grown_at keys items c groups at group made b e n f t = record {
 pub on_err : {T E : Type 0} (r : Result T E) (P : Type 0) → P → OnErr r P
 on_err (Ok v) P p = tt
 on_err (Err e) P p = p
+
+-- and two things that are meant of a success make a third of it
+pub on_ok_both : {T E : Type 0} (r : Result T E) (P Q R : Type 0) → (P → Q → R) → OnOk r P → OnOk r Q → OnOk r R
+on_ok_both (Ok v) P Q R f p q = f p q
+on_ok_both (Err e) P Q R f p q = tt

@@ -21,9 +21,8 @@ use Rattle.statement_meaning.specs.PartialCombinations.{is_same}
 use Rattle.statement_meaning.proofs.AnyOrder.{count_any}
 use Rattle.statement_meaning.proofs.FullOrders.{keys_ranked}
 use Rattle.statement_meaning.proofs.Groups.{groups_by_heads, shape_by_order}
-use Rattle.result_shape.specs.Groups.{AreGroupsOf, firsts}
 use Rattle.result_shape.specs.Tallies.{AreTalliesOf, tallies_shown}
-use Rattle.result_shape.specs.declared.groups.Group.{Group}
+use Rattle.result_shape.specs.declared.tallies.Tally.{Tally}
 use Rattle.result_shape.specs.declared.rows.TheConstants.{ROW_LIMIT}
 use Rattle.result_shape.proofs.Tallying.{tallies_are}
 
@@ -62,32 +61,50 @@ shape_by_heads q tables h fs s g k r =
     ∙ groups_by_heads tables q.items q.groups q.order grouped.0 grouped.1 (in_order is_lower h) h fs
     (times_in_order is_same is_lower h) k r
 
-rows_go : (q : Statement) (tables : List (List (List Value))) (h : List (List ℕ)) (gs : List Group)
-    → All (λ group. AreTalliesOf tables group.first (filter (is_same_group tables q.groups group.first) h) q.items
-    group.tallies.items) gs
-    → map (λ c. shown_row tables q.items (filter (is_same_group tables q.groups c) h) c) (firsts gs)
-    ≡ map (λ group. tallies_shown tables group.tallies.items) gs
-rows_go q tables h [] a = refl
-rows_go q tables h (g ∷ gs) a =
-    ap₂ (λ (row : List Shown) (rows : List (List Shown)). row ∷ rows)
-    (sym (tallies_are tables g.first (filter (is_same_group tables q.groups g.first) h) q.items g.tallies.items
-    (All-head (λ group. AreTalliesOf tables group.first (filter (is_same_group tables q.groups group.first) h) q.items
-    group.tallies.items) g gs a)))
-    (rows_go q tables h gs (All-tail (λ group. AreTalliesOf tables group.first
-    (filter (is_same_group tables q.groups group.first) h) q.items group.tallies.items) g gs a))
+-- Groups of any form, each with its first member and its tallies.
+module _ {G : Type 0} (first : G → List ℕ) (tallies : G → List Tally) where
+  abbrev pub ShowsGroup : Statement → List (List (List Value)) → List (List ℕ) → G → Type 0
+  ShowsGroup q tables h group =
+      AreTalliesOf tables (first group) (filter (is_same_group tables q.groups (first group)) h) q.items (tallies group)
 
--- the rows of groups, once these are in order of all keys
-pub grouped_shape : (q : Statement) (tables : List (List (List Value))) (h : List (List ℕ)) (gs sorted : List Group)
-    → IsSoundQuery q → 0 < length q.groups → AreGroupsOf q tables h gs → IsPermutation gs sorted
-    → Rises (is_before tables (q.order ++ group_keys q.groups)) (firsts sorted)
-    → shape_of q tables h ≡ map (λ group. tallies_shown tables group.tallies.items) sorted
-grouped_shape q tables h gs sorted s g a p r =
-    shape_by_heads q tables h (firsts sorted) s g
-    (λ c. a.heads_are c
-    ∙ same_from_permutation is_same (firsts gs) (firsts sorted)
-    (IsPermutation-map (λ (group : Group). group.first) gs sorted p) c) r
-    ∙ rows_go q tables h sorted (All-permutation (λ group. AreTalliesOf tables group.first
-    (filter (is_same_group tables q.groups group.first) h) q.items group.tallies.items) gs sorted p a.tallies)
+  rows_go : (q : Statement) (tables : List (List (List Value))) (h : List (List ℕ)) (gs : List G)
+      → All (ShowsGroup q tables h) gs
+      → map (λ c. shown_row tables q.items (filter (is_same_group tables q.groups c) h) c) (map first gs)
+      ≡ map (λ group. tallies_shown tables (tallies group)) gs
+  rows_go q tables h [] a = refl
+  rows_go q tables h (g ∷ gs) a =
+      ap₂ (λ (row : List Shown) (rows : List (List Shown)). row ∷ rows)
+      (sym (tallies_are tables (first g) (filter (is_same_group tables q.groups (first g)) h) q.items (tallies g)
+      (All-head (ShowsGroup q tables h) g gs a)))
+      (rows_go q tables h gs (All-tail (ShowsGroup q tables h) g gs a))
+
+  -- the rows of groups, once these are in order of all keys
+  pub grouped_shape : (q : Statement) (tables : List (List (List Value))) (h : List (List ℕ)) (gs sorted : List G)
+      → IsSoundQuery q → 0 < length q.groups
+      → ((c : List ℕ) → times is_same c (heads (is_same_group tables q.groups) h) ≡ times is_same c (map first gs))
+      → All (ShowsGroup q tables h) gs → IsPermutation gs sorted
+      → Rises (is_before tables (q.order ++ group_keys q.groups)) (map first sorted)
+      → shape_of q tables h ≡ map (λ group. tallies_shown tables (tallies group)) sorted
+  grouped_shape q tables h gs sorted s g k a p r =
+      shape_by_heads q tables h (map first sorted) s g
+      (λ c. k c
+      ∙ same_from_permutation is_same (map first gs) (map first sorted) (IsPermutation-map first gs sorted p) c) r
+      ∙ rows_go q tables h sorted (All-permutation (ShowsGroup q tables h) gs sorted p a)
+
+  pub grouped_shaped : (q : Statement) (tables copies : List TableValue) (h : List (List ℕ)) (gs sorted : List G)
+      → IsSoundQuery q → 0 < length q.groups
+      → ((c : List ℕ) → times is_same c (heads (is_same_group (rows_in tables) q.groups) h)
+      ≡ times is_same c (map first gs))
+      → All (ShowsGroup q (rows_in tables) h) gs → copies ≡ tables → IsPermutation gs sorted
+      → Rises (is_before (rows_in tables) (q.order ++ group_keys q.groups)) (map first sorted) → length gs ≤ ROW_LIMIT
+      → (map (λ group. tallies_shown (rows_in copies) (tallies group)) sorted ≡ shape_of q (rows_in tables) h)
+      × (length (map (λ group. tallies_shown (rows_in copies) (tallies group)) sorted) ≤ ROW_LIMIT)
+  grouped_shaped q tables copies h gs sorted s g k a e p r few = (
+    ap (λ (ts : List TableValue). map (λ (group : G). tallies_shown (rows_in ts) (tallies group)) sorted) e
+        ∙ sym (grouped_shape q (rows_in tables) h gs sorted s g k a p r),
+    subst (λ (n : ℕ). n ≤ ROW_LIMIT) (sym (length_permutation gs sorted p)
+        ∙ sym (length-map sorted (λ (group : G). tallies_shown (rows_in copies) (tallies group)))) few,
+  )
 
 -- The rows as they are kept, over the tables that are shared a second time.
 
@@ -105,32 +122,18 @@ plain_shaped q tables copies h sorted g e p r few =
           ∙ plain_length q (rows_in tables) h g)) few,
     )
 
-pub grouped_shaped : (q : Statement) (tables copies : List TableValue) (h : List (List ℕ)) (gs sorted : List Group)
-    → IsSoundQuery q → 0 < length q.groups → AreGroupsOf q (rows_in tables) h gs → copies ≡ tables
-    → IsPermutation gs sorted
-    → Rises (is_before (rows_in tables) (q.order ++ group_keys q.groups)) (firsts sorted) → length gs ≤ ROW_LIMIT
-    → (map (λ group. tallies_shown (rows_in copies) group.tallies.items) sorted ≡ shape_of q (rows_in tables) h)
-    × (length (map (λ group. tallies_shown (rows_in copies) group.tallies.items) sorted) ≤ ROW_LIMIT)
-grouped_shaped q tables copies h gs sorted s g a e p r few = (
-  ap (λ (ts : List TableValue). map (λ (group : Group). tallies_shown (rows_in ts) group.tallies.items) sorted) e
-      ∙ sym (grouped_shape q (rows_in tables) h gs sorted s g a p r),
-  subst (λ (n : ℕ). n ≤ ROW_LIMIT) (sym (length_permutation gs sorted p)
-      ∙ sym (length-map sorted (λ (group : Group). tallies_shown (rows_in copies) group.tallies.items))) few,
-)
-
 -- with groups each group gives one
-pub grouped_length : (q : Statement) (tables : List (List (List Value))) (h : List (List ℕ)) (gs : List Group)
-    → IsSoundQuery q → 0 < length q.groups → AreGroupsOf q tables h gs
-    → length (shape_of q tables h) ≡ length gs
-grouped_length q tables h gs s g a =
-    let sorted : List (List ℕ) = in_order (is_before tables (q.order ++ group_keys q.groups)) (firsts gs) in
+pub grouped_length : (q : Statement) (tables : List (List (List Value))) (h fs : List (List ℕ))
+    → IsSoundQuery q → 0 < length q.groups
+    → ((c : List ℕ) → times is_same c (heads (is_same_group tables q.groups) h) ≡ times is_same c fs)
+    → length (shape_of q tables h) ≡ length fs
+grouped_length q tables h fs s g k =
+    let sorted : List (List ℕ) = in_order (is_before tables (q.order ++ group_keys q.groups)) fs in
     ap (λ (rows : List (List Shown)). length rows)
     (shape_by_heads q tables h sorted s g
-    (λ c. a.heads_are c
-    ∙ sym (times_in_order is_same (is_before tables (q.order ++ group_keys q.groups)) (firsts gs) c))
+    (λ c. k c ∙ sym (times_in_order is_same (is_before tables (q.order ++ group_keys q.groups)) fs c))
     (rises_in_order (is_before tables (q.order ++ group_keys q.groups))
-    (keys_ranked tables (q.order ++ group_keys q.groups)) (firsts gs)))
+    (keys_ranked tables (q.order ++ group_keys q.groups)) fs))
     ∙ (length-map sorted (λ c. shown_row tables q.items (filter (is_same_group tables q.groups c) h) c)
-    ∙ (count_any sorted (firsts gs) (λ c. times_in_order is_same
-    (is_before tables (q.order ++ group_keys q.groups)) (firsts gs) c)
-    ∙ length-map gs (λ (group : Group). group.first)))
+    ∙ count_any sorted fs (λ c. times_in_order is_same
+    (is_before tables (q.order ++ group_keys q.groups)) fs c))

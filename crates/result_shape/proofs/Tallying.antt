@@ -135,7 +135,7 @@ tallies_are tables first members (item ∷ items) (tally ∷ tallies) a =
 
 -- The room of a tally.
 
-tally_room : (tables : List (List (List Value))) (first : List ℕ) (members : List (List ℕ)) (item : Item)
+pub tally_room : (tables : List (List (List Value))) (first : List ℕ) (members : List (List ℕ)) (item : Item)
     (tally : Tally)
     → IsTallyOf tables first members item tally → length members < 2 ^ 63 → HasRoom tally
 tally_room tables first members (Column at) (Cell of row) t few = tt

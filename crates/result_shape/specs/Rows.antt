@@ -7,9 +7,15 @@ use Rattle.csv_tables.specs.StatementTables.{rows_in, tables_in}
 use Rattle.csv_tables.specs.Tables.{TableValue}
 use Rattle.statement_meaning.specs.Meaning.{Shown, shape_of, shown_row}
 use Rattle.result_shape.specs.Groups.{AreGroupsOf, AreReadyFor, AreRuns, groups_in}
+use Rattle.result_shape.specs.Numbered.{AreNumbered, AreWhole, IsNumberOf, tallies_from}
 use Rattle.result_shape.specs.Tallies.{tallies_shown}
+use Rattle.plan_operators.specs.declared.keys.ReadyKey.{ReadyKey}
+use Rattle.result_shape.specs.declared.numbered.NumberGroups.{NumberGroups}
+use Rattle.result_shape.specs.declared.shaper.Gathered.{Gathered}
+use Rattle.result_shape.specs.declared.shaper.Gathered.TheVariants.{ByNumber, ByKeys}
+use Rattle.result_shape.specs.declared.tallies.ReadyItem.{ReadyItem}
 use Rattle.result_shape.specs.declared.rows.Kept.{Kept}
-use Rattle.result_shape.specs.declared.rows.Kept.TheVariants.{Plain, Groups}
+use Rattle.result_shape.specs.declared.rows.Kept.TheVariants.{Plain, Groups, Numbered}
 use Rattle.result_shape.specs.declared.rows.Rows.{Rows}
 use Rattle.result_shape.specs.declared.rows.RowsFault.{RowsFault}
 use Rattle.result_shape.specs.declared.rows.RowsFault.TheVariants.{TooManyRows, Memory}
@@ -22,10 +28,31 @@ use Rattle.result_shape.specs.declared.shaper.Shaper.{Shaper}
 abbrev pub kept_shown : List (List (List Value)) → List Item → Kept → List (List Shown)
 kept_shown tables items (Plain combos) = map (λ c. shown_row tables items (c ∷ []) c) combos.items
 kept_shown tables items (Groups groups) = map (λ group. tallies_shown tables group.tallies.items) groups.items
+kept_shown tables items (Numbered rows) =
+    map (λ one. tallies_shown tables (tallies_from rows.tallies.items (length items) one)) rows.places.items
 
 -- the rows that a statement shows
 abbrev pub rows_seen : Statement → Rows → List (List Shown)
 rows_seen q rows = kept_shown (rows_in (tables_in rows.tables.items)) q.items rows.kept
+
+-- groups by their one number stand for these combinations
+pub record AreByNumber (q : Statement) (tables : List (List (List Value))) (keys : List ReadyKey)
+    (items : List ReadyItem) (h : List (List ℕ)) (groups : NumberGroups) : Type 0 where
+  pub number : IsNumberOf keys groups.column
+  pub whole : AreWhole (length items) groups
+  pub numbered : AreNumbered q tables h groups.firsts.items groups.tallies.items
+
+-- groups that were gathered stand for these combinations
+abbrev pub StandForGroups : Statement → List (List (List Value)) → List ReadyKey → List ReadyItem → List (List ℕ)
+    → Gathered → Type 0
+StandForGroups q tables keys items h (ByNumber groups) = AreByNumber q tables keys items h groups
+StandForGroups q tables keys items h (ByKeys runs) = AreGroupsOf q tables h (groups_in runs.items) × AreRuns runs.items
+
+-- they stand for some combinations, fewer than 2 ^ 63
+abbrev pub AreStanding : List ReadyKey → List ReadyItem → Gathered → Type 0
+AreStanding keys items groups =
+    (q : Statement) × ((tables : List (List (List Value))) × ((h : List (List ℕ))
+    × (AreReadyFor q tables keys items × (StandForGroups q tables keys items h groups × (length h < 2 ^ 63)))))
 
 -- the shaper has these tables, and stands for these combinations: without GROUP BY it keeps their row numbers, with
 -- GROUP BY their groups
@@ -33,8 +60,8 @@ pub record StandsFor (q : Statement) (tables : List TableValue) (shaper : Shaper
   pub tables_are : tables_in shaper.tables.now ≡ tables
   pub ready : AreReadyFor q (rows_in tables) shaper.keys.items shaper.items.items
   pub combos : q.groups ≡ [] → shaper.combos.items ≡ h
-  pub groups : 0 < length q.groups → AreGroupsOf q (rows_in tables) h (groups_in shaper.runs.items)
-  pub runs : AreRuns shaper.runs.items
+  pub groups : 0 < length q.groups
+      → StandForGroups q (rows_in tables) shaper.keys.items shaper.items.items h shaper.groups
 
 -- the shaper stands for some combinations, fewer than 2 ^ 63
 abbrev pub IsStanding : Statement → Shaper → Type 0

@@ -5,6 +5,8 @@
 #![tactic(auto)]
 
 mod groups;
+mod heads;
+mod numbered;
 mod row_texts;
 mod rows;
 mod runs;

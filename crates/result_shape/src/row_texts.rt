@@ -10,6 +10,7 @@ ghost use Rattle.statement_meaning.specs.Spelling.{further_items, item_text, ite
 ghost use Rattle.result_shape.specs.Rows.{rows_seen};
 ghost use Rattle.result_shape.specs.Tallies.{tallies_shown, tally_shown};
 
+use crate::numbered::tallies_from;
 use crate::rows::{Kept, Rows};
 use crate::tallies::{Tally, first_tally, ready_item};
 use csv_tables::Table;
@@ -117,6 +118,12 @@ pub fn row_text(alloc: Global, q: &Query, rows: &Rows, i: usize) -> Result<Words
         }
         Kept::Groups(groups) => {
             let text = text_of(alloc, &rows.tables, &groups[i].tallies)?;
+            Ok(text)
+        }
+        Kept::Numbered(numbered) => {
+            let start = numbered.places[i].start;
+            let tallies = tallies_from(&numbered.tallies, start, q.items().len());
+            let text = text_of(alloc, &rows.tables, tallies)?;
             Ok(text)
         }
     }

@@ -4,6 +4,7 @@ ghost use Rattle.row_values.specs.Statements.{Statement};
 ghost use Rattle.result_shape.specs.Rows.{rows_seen};
 
 use crate::groups::Group;
+use crate::numbered::NumberRows;
 use csv_tables::Table;
 use plan_operators::Combo;
 use row_values::OutOfMemory;
@@ -31,11 +32,13 @@ impl From<OutOfMemory> for RowsFault {
     }
 }
 
-/// What rows are kept as: a combination for each, or a group.
+/// What rows are kept as: a combination for each, or a group, which may keep its tallies among
+/// those of all.
 #[derive(Debug, Drop)]
 pub(crate) enum Kept {
     Plain(Vec<Combo>),
     Groups(Vec<Group>),
+    Numbered(NumberRows),
 }
 
 /// The result rows of a statement: at most `ROW_LIMIT`.
@@ -53,6 +56,7 @@ impl Rows {
         match &self.kept {
             Kept::Plain(combos) => combos.len(),
             Kept::Groups(groups) => groups.len(),
+            Kept::Numbered(rows) => rows.places.len(),
         }
     }
 }

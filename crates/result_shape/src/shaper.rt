@@ -4,21 +4,25 @@
 //! order of the keys and then of the row numbers; with GROUP BY each group does, and a combination
 //! whose group is there takes no memory. `finish` shapes a whole list.
 ghost use Rattle.std.specs.Prelude.{◌≡◌, ◌<◌, ◌++◌, ◌∷◌, [], ℕ, List, All, IfOk, IsPermutation};
-ghost use Rattle.std.specs.Prelude.{OnErr, false, length, map};
+ghost use Rattle.std.specs.Prelude.{OnErr, OnOk, false, length, map};
 ghost use Rattle.std.specs.Ordering.{nat_cmp, ordering_then};
 ghost use Rattle.std.specs.Cmp.Lexicographic.{slice_cmp};
 ghost use Rattle.row_values.specs.Sorting.{Rises};
-ghost use Rattle.row_values.specs.Statements.{IsSoundQuery};
+ghost use Rattle.row_values.specs.Statements.{IsSoundQuery, Statement};
+ghost use Rattle.row_values.specs.declared.values.Value.{Value as Cells};
 ghost use Rattle.csv_tables.specs.StatementTables.{rows_in, tables_in};
 ghost use Rattle.csv_tables.specs.Tables.{TableValue};
 ghost use Rattle.plan_operators.specs.Keys.{keys_rank};
 ghost use Rattle.statement_meaning.specs.FullOrder.{is_earlier};
 ghost use Rattle.statement_meaning.specs.Meaning.{group_keys, is_before, is_same_group};
-ghost use Rattle.result_shape.specs.Groups.{AreGroupsOf, firsts};
+ghost use Rattle.result_shape.specs.Groups.{AreGroupsOf, AreReadyFor, firsts};
+ghost use Rattle.result_shape.specs.Numbered.{AreNumbered};
 ghost use Rattle.result_shape.specs.Tallies.{IsReadyItem};
-ghost use Rattle.result_shape.specs.Rows.{IsPushed, IsShaped, IsStanding, StandsFor};
+ghost use Rattle.result_shape.specs.Rows.{AreStanding, IsPushed, IsShaped, IsStanding, StandForGroups, StandsFor};
 
 use crate::groups::Group;
+use crate::heads::by_heads;
+use crate::numbered::{NumberGroups, NumberRows, Placed, number_column, sort_by_number};
 use crate::rows::{Kept, ROW_LIMIT, Rows, RowsFault};
 use crate::runs::{gather, joined};
 use crate::tallies::{ReadyItem, ready_item};
@@ -37,7 +41,14 @@ pub struct Shaper<'a> {
     keys: Vec<ReadyKey<'a>>,
     items: Vec<ReadyItem<'a>>,
     combos: Vec<Combo>,
-    runs: Vec<Vec<Group>>,
+    groups: Gathered<'a>,
+}
+
+/// The groups so far: by the number that is their one key, or by their keys in runs.
+#[derive(Drop)]
+pub enum Gathered<'a> {
+    ByNumber(NumberGroups<'a>),
+    ByKeys(Vec<Vec<Group>>),
 }
 
 /// Whether a combination was taken.
@@ -94,7 +105,7 @@ fn sort_rows(
         Rises (is_earlier (rows_in (tables_in tables.now)) q.now.order) sorted.items) }
 {
     let keys = ready_keys(alloc, tables, q.order())?;
-    let mut sorted = combos;
+    let mut sorted = by_heads(alloc, keys.as_slice(), combos)?;
     sorted.sort_unstable_by(|a, b| full_order_of(keys.as_slice(), a, b));
     Ok(sorted)
 }
@@ -125,6 +136,25 @@ fn sort_groups(
     let all = keys_of_groups(alloc, q)?;
     let keys = ready_keys(alloc, tables, all.as_slice())?;
     let mut sorted = groups;
+    sorted.sort_unstable_by(|a, b| keys_order_of(keys.as_slice(), &a.first, &b.first));
+    Ok(sorted)
+}
+
+/// The same for groups by number, which come in the order of these.
+fn sort_placed(
+    alloc: Global,
+    q: &Query,
+    tables: &[Rc<Table>],
+    placed: Vec<Placed>,
+) -> Result<Vec<Placed>, OutOfMemory>
+    ensures permutation { IfOk result (λ sorted. IsPermutation placed.items sorted.items) }
+    ensures in_order { IfOk result (λ sorted.
+        Rises (is_before (rows_in (tables_in tables.now)) (q.now.order ++ group_keys q.now.groups))
+        (map (λ one. one.first) sorted.items)) }
+{
+    let all = keys_of_groups(alloc, q)?;
+    let keys = ready_keys(alloc, tables, all.as_slice())?;
+    let mut sorted = placed;
     sorted.sort_unstable_by(|a, b| keys_order_of(keys.as_slice(), &a.first, &b.first));
     Ok(sorted)
 }
@@ -173,6 +203,70 @@ fn group_rows(
     })
 }
 
+/// The rows of groups by number.
+fn number_rows(
+    alloc: Global,
+    q: &Query,
+    tables: &[Rc<Table>],
+    groups: NumberGroups<'_>,
+) -> Result<Rows, RowsFault>
+    requires some { 0 < length q.now.groups }
+    requires sound { IsSoundQuery q.now }
+    ensures { (h : List (List ℕ))
+        → AreNumbered q.now (rows_in (tables_in tables.now)) h groups.entry.firsts.items groups.entry.tallies.items
+        → IsShaped q.now (tables_in tables.now) h result }
+{
+    let placed = groups.placed(alloc, q.items().len())?;
+    if placed.len() > ROW_LIMIT {
+        return Err(RowsFault::TooManyRows);
+    }
+    // Sorted by one number a group, then by keys that say the same: the second finds them in order.
+    let by_number = sort_by_number(placed);
+    let places = sort_placed(alloc, q, tables, by_number)?;
+    let tables = shared(alloc, tables)?;
+    Ok(Rows {
+        tables,
+        kept: Kept::Numbered(NumberRows {
+            places,
+            tallies: groups.tallies,
+        }),
+    })
+}
+
+/// No group yet, by number where the keys are one column of numbers. It takes no memory.
+fn no_groups<'a>(alloc: Global, keys: &[ReadyKey<'a>]) -> Gathered<'a>
+    ensures { (q : Statement) (tables : List (List (List Cells))) (items : List ReadyItem)
+        → StandForGroups q tables keys.now items [] result }
+{
+    match number_column(keys) {
+        Some(column) => Gathered::ByNumber(NumberGroups::new(alloc, column)),
+        None => Gathered::ByKeys(Vec::new(alloc)),
+    }
+}
+
+/// Takes a combination into its group, or begins one.
+#[inline]
+fn take_in_group(
+    alloc: Global,
+    keys: &[ReadyKey<'_>],
+    items: &[ReadyItem<'_>],
+    groups: &mut Gathered<'_>,
+    c: &Combo,
+) -> Result<(), OutOfMemory>
+    requires { AreStanding keys.now items.now groups.old }
+    ensures taken { (q : Statement) (tables : List (List (List Cells))) (h : List (List ℕ))
+        → AreReadyFor q tables keys.now items.now → StandForGroups q tables keys.now items.now h groups.old
+        → OnOk result (StandForGroups q tables keys.now items.now (h ++ c.now ∷ []) groups.new) }
+    ensures memory { (q : Statement) (tables : List (List (List Cells))) (h : List (List ℕ))
+        → AreReadyFor q tables keys.now items.now → StandForGroups q tables keys.now items.now h groups.old
+        → OnErr result (All (λ member. is_same_group tables q.groups member c.now ≡ false) h) }
+{
+    match groups {
+        Gathered::ByNumber(groups) => groups.take_in(alloc, items, c),
+        Gathered::ByKeys(runs) => gather(alloc, keys, items, runs, c),
+    }
+}
+
 impl<'a> Shaper<'a> {
     /// It stands for no combination.
     pub fn begin(
@@ -185,13 +279,14 @@ impl<'a> Shaper<'a> {
         let columns = ascending_keys(alloc, q.groups())?;
         let keys = ready_keys(alloc, tables, columns.as_slice())?;
         let items = ready_items(alloc, tables, q.items())?;
+        let groups = no_groups(alloc, keys.as_slice());
         Ok(Shaper {
             alloc,
             tables,
             keys,
             items,
             combos: Vec::new(alloc),
-            runs: Vec::new(alloc),
+            groups,
         })
     }
 
@@ -205,11 +300,11 @@ impl<'a> Shaper<'a> {
             → OnErr result (All (λ one. is_same_group (rows_in tables) q.now.groups one c.now ≡ false) h) }
     {
         if !q.groups().is_empty() {
-            gather(
+            take_in_group(
                 self.alloc,
                 self.keys.as_slice(),
                 self.items.as_slice(),
-                &mut self.runs,
+                &mut self.groups,
                 c,
             )?;
             return Ok(Pushed::More);
@@ -226,11 +321,23 @@ impl<'a> Shaper<'a> {
         ensures { (tables : List TableValue) (h : List (List ℕ)) → StandsFor q.now tables self.entry h
             → IsShaped q.now tables h result }
     {
+        let Shaper {
+            alloc,
+            tables,
+            combos,
+            groups,
+            ..
+        } = self;
         if q.groups().is_empty() {
-            return plain_rows(self.alloc, q, self.tables, self.combos);
+            return plain_rows(alloc, q, tables, combos);
         }
-        let groups = joined(self.alloc, self.runs)?;
-        group_rows(self.alloc, q, self.tables, groups)
+        match groups {
+            Gathered::ByNumber(groups) => number_rows(alloc, q, tables, groups),
+            Gathered::ByKeys(runs) => {
+                let groups = joined(alloc, runs)?;
+                group_rows(alloc, q, tables, groups)
+            }
+        }
     }
 }
 

@@ -164,7 +164,7 @@ fn more_row(ready: &ReadyItem<'_>, at: ColRef, row: u32, c: &Combo) -> u32
 
 /// The tally once one more member of its group is taken in.
 #[inline]
-fn more_tally(ready: &ReadyItem<'_>, tally: Tally, c: &Combo) -> Tally
+pub(crate) fn more_tally(ready: &ReadyItem<'_>, tally: Tally, c: &Combo) -> Tally
     requires { HasRoom tally }
     ensures { (tables : List (List (List Cells))) (first : List ℕ) (members : List (List ℕ))
         → IsReadyItem tables ready.now → IsTallyOf tables first members ready.now.item tally
@@ -182,7 +182,8 @@ pub(crate) fn first_tallies(
     items: &[ReadyItem<'_>],
     c: &Combo,
 ) -> Result<Vec<Tally>, OutOfMemory>
-    ensures { (tables : List (List (List Cells))) → All (IsReadyItem tables) items.now
+    ensures count { IfOk result (λ tallies. length tallies.items ≡ length items.now) }
+    ensures tallies { (tables : List (List (List Cells))) → All (IsReadyItem tables) items.now
         → IfOk result (λ tallies. AreTalliesOf tables c.now (c.now ∷ [])
         (map (λ ready. ready.item) items.now) tallies.items) }
 {

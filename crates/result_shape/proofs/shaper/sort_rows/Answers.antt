@@ -5,6 +5,7 @@ use Rattle.std.specs.Prelude.{IsSortedBy}
 use Rattle.std.specs.Ordering.{is_lt, nat_cmp, ordering_then}
 use Rattle.std.specs.declared.cmp.Ordering.{Ordering}
 use Rattle.std.proofs.lemmas.Fn.{always_returns_same}
+use Rattle.std.proofs.lemmas.List.Sorted.{IsPermutation-trans}
 use Rattle.row_values.proofs.InOrder.{rises_from_sorted}
 use Rattle.csv_tables.specs.StatementTables.{rows_in, tables_in}
 use Rattle.plan_operators.specs.Keys.{keys_rank}
@@ -29,3 +30,8 @@ returns-clause-in_order c =
     (subst (λ (o : List ℕ → List ℕ → Ordering). IsSortedBy
     (λ (a : List ℕ) (b : List ℕ). is_lt (ordering_then (o a b) (slice_cmp nat_cmp a b)))
     c.sort_unstable_by.new.self.items) same sorted)
+
+pub returns-clause-permutation : goal.returns-clause-permutation
+returns-clause-permutation c =
+    IsPermutation-trans c.args.combos.items c.in_ok-sorted.sorted.items c.sort_unstable_by.new.self.items
+    c.in_ok-sorted.ensures c.sort_unstable_by.ensures.permutation
