@@ -1,6 +1,6 @@
 #!/usr/bin/env bash
-# Many runs against a plain program: 100,000 runs on a table of 1,000 rows, and 10 runs with three predicates over
-# 1,048,576 rows.
+# Many runs against a plain program: 100,000 runs on a table of 1,000 rows with an index, and 10 runs with three predicates
+# over 1,048,576 rows.
 #
 # It makes the files, builds the plain program with `rustc -O`, compares the reports byte for byte, and then times both
 # in turn: processor time (user and system) in seconds, and the ratio of the medians. `runs.sh 9` has nine rounds.
@@ -16,6 +16,7 @@ awk 'BEGIN { print "c0"; for (i = 0; i < 1000; i++) print (i * 643) % 1000 + 1 }
 awk -v n=1048576 'BEGIN { print "c0,c1,c2"; for (i = 0; i < n; i++) printf "%d,%d,%d\n", (i * 643) % n, (i * 40503) % n, (i * 7919) % n }' >"$work/large.csv"
 awk 'BEGIN {
     print "load t small.csv"
+    print "index t c0"
     print "prepare q SELECT c0 FROM t WHERE c0 BETWEEN ? AND ?"
     for (i = 0; i < 100000; i++) { low = (i * 7919) % 1000; print "run q " low " " low + 9 }
 }' >"$work/small.scr"

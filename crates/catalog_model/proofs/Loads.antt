@@ -36,6 +36,7 @@ kept held catalog name version sound number table columns limits =
     subst (λ (n : ℕ). All (λ (table : TableState). table.now.number < n) catalog.tables)
     (sym number) sound.numbered in
     record {
+      weights = sound.weights;
       table_names = differ_put catalog.tables name version sound.table_names;
       statement_names = sound.statement_names;
       version_numbers = numbers_put catalog.tables name version before sound.version_numbers;

@@ -31,6 +31,7 @@ pub record MayKeep (catalog : Catalog) (name : List ℕ) (q : Statement) : Type 
 pub kept : (held : List Version) (catalog : Catalog) (name : List ℕ) (q : Statement) → MayKeep catalog name q
     → IsCatalog held catalog → IsCatalog held (with_statement catalog name q)
 kept held catalog name q k sound = record {
+  weights = sound.weights;
   table_names = sound.table_names;
   statement_names = differ_behind catalog.statements name q k.free sound.statement_names;
   version_numbers = sound.version_numbers;

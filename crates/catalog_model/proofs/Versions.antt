@@ -1,5 +1,5 @@
 -- The numbers of versions as one is put, and what versions hold whose numbers differ.
-use Rattle.std.proofs.Common.{ℕ, ◌≡◌, ◌<◌, ◌+◌, ◌==◌, ◌&&◌, ◌||◌, not, List, [], ◌∷◌, ap, refl, cond, Bool, true, false, All, arith}
+use Rattle.std.proofs.Common.{ℕ, ◌≡◌, ◌<◌, ◌+◌, ◌==◌, ◌&&◌, ◌||◌, not, List, [], ◌∷◌, map, ap, refl, cond, Bool, true, false, All, arith}
 use Rattle.std.specs.Str.{bytes_eq}
 use Rattle.std.proofs.lemmas.Bool.{and_from, and_parts, not-true, or_from, or_parts}
 use Rattle.std.proofs.lemmas.Bool.Decides.{nat_tests}
@@ -12,6 +12,10 @@ IsBefore next table = table.now.number < next
 
 abbrev renewed : TableState → Version → TableState
 renewed t version = record t { now = version }
+
+abbrev new_table : List ℕ → Version → TableState
+new_table name version =
+    record { name = name; now = version; indexed = map (λ column. false) version.content.schema }
 
 -- versions whose numbers differ are each there once
 once_by : (test : Bool) (v : Version) (vs : List Version) → test ≡ false → each_once vs ≡ vs
@@ -97,7 +101,7 @@ all_by P false t ts name version p a later =
 pub all_put : (P : Version → Type 0) (ts : List TableState) (name : List ℕ) (version : Version) → P version
     → All (Now P) ts → All (Now P) (put_version ts name version)
 all_put P [] name version p a =
-    All-cons (Now P) (record { name = name; now = version; indexed = [] }) [] p (All-nil (Now P))
+    All-cons (Now P) (new_table name version) [] p (All-nil (Now P))
 all_put P (t ∷ ts) name version p a =
     all_by P (bytes_eq name t.name) t ts name version p a (all_put P ts name version p)
 

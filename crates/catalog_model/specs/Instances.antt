@@ -1,5 +1,7 @@
 -- An instance: a prepared statement with arguments that fit it, or the first refusal.
-use Rattle.std.specs.Prelude.{ℕ, ◌+◌, ◌==◌, List, [], ◌∷◌, length, Option, Some, None, Result, Ok, Err, if◌then◌else◌}
+use Rattle.std.specs.Prelude.{ℕ, ◌+◌, ◌==◌, List, [], ◌∷◌, length, slice_get, Option, Some, None, Result, Ok, Err}
+use Rattle.std.specs.Prelude.{if◌then◌else◌}
+use Rattle.std.specs.Option.{option_map_or}
 use Rattle.row_values.specs.Names.{canonical_name}
 use Rattle.row_values.specs.Refusals as refused
 use Rattle.row_values.specs.Statements.{Statement, kinds_of}
@@ -7,7 +9,8 @@ use Rattle.row_values.specs.Values.{kind_of}
 use Rattle.row_values.specs.declared.refusals.Refusal.{Refusal}
 use Rattle.row_values.specs.declared.values.Kind.{Kind}
 use Rattle.row_values.specs.declared.values.Value.{Value}
-use Rattle.catalog_model.specs.Catalogs.{Catalog, find_statement}
+use Rattle.statement_statistics.specs.Statistics.{first_wide}
+use Rattle.catalog_model.specs.Catalogs.{Catalog, TableState, find_statement, tables_of}
 use Rattle.catalog_model.specs.Loading.{is_same_kind}
 
 -- a statement and its arguments
@@ -32,21 +35,31 @@ args_refusal kinds args =
     if length args == length kinds then kind_refusal (first_misfit 1 kinds args) else
     Some (refused.argument_count (length kinds))
 
+-- what the place at this position of a statement is called
+abbrev pub alias_at : Statement → ℕ → List ℕ
+alias_at q place = option_map_or (λ there. there.alias) (slice_get q.places place) []
+
+-- why a statement that is wide at this place isn't executed
+abbrev pub width_refusal : Statement → Option ℕ → Option Refusal
+width_refusal q None = None
+width_refusal q (Some place) = Some (refused.wide (canonical_name (alias_at q place)))
+
 -- the refusal where there is one, or else the value
 abbrev pub refused_or : {T : Type 0} → Option Refusal → Result T Refusal → Result T Refusal
 refused_or None value = value
 refused_or (Some why) value = Err why
 
--- the statement with these arguments, or why it hasn't them: each reason is one `refused_or`,
--- in the order in which they count
-abbrev pub with_args : Statement → List Value → Result Instance Refusal
-with_args q args =
-    refused_or (args_refusal (kinds_of q.places q.preds) args) (Ok (record { statement = q; args = args }))
+-- the statement over these tables with these arguments, or why it isn't executed: each reason is one `refused_or`, in
+-- the order in which they count
+abbrev pub with_args : List TableState → Statement → List Value → Result Instance Refusal
+with_args tables q args =
+    refused_or (args_refusal (kinds_of q.places q.preds) args)
+    (refused_or (width_refusal q (first_wide q (tables_of tables q))) (Ok (record { statement = q; args = args })))
 
-abbrev pub instance_in : Option Statement → List ℕ → List Value → Result Instance Refusal
-instance_in None name args = Err (refused.unknown_statement (canonical_name name))
-instance_in (Some q) name args = with_args q args
+abbrev pub instance_in : List TableState → Option Statement → List ℕ → List Value → Result Instance Refusal
+instance_in tables None name args = Err (refused.unknown_statement (canonical_name name))
+instance_in tables (Some q) name args = with_args tables q args
 
 -- the statement of this name with these arguments, or the first refusal
 unfoldable pub instance_of : Catalog → List ℕ → List Value → Result Instance Refusal
-instance_of catalog name args = instance_in (find_statement catalog.statements name) name args
+instance_of catalog name args = instance_in catalog.tables (find_statement catalog.statements name) name args

@@ -1,6 +1,7 @@
 pub mod Catalogs
 pub mod Faults
 pub mod Held
+pub mod Indexing
 pub mod Instances
 pub mod Laws
 pub mod Loading

@@ -5,6 +5,7 @@ use Rattle.row_values.specs.Statements.{IsSoundQuery}
 use Rattle.row_values.specs.declared.statement.Place.{Place}
 use Rattle.csv_tables.specs.Tables.{IsTable}
 use Rattle.name_binder.specs.Catalog.{names_differ}
+use Rattle.plan_trees.specs.Statistics.{AreWeights}
 use Rattle.catalog_model.specs.declared.TheConstants.{TABLE_LIMIT, STATEMENT_LIMIT, HELD_CELL_LIMIT, HELD_BYTE_LIMIT}
 use Rattle.catalog_model.specs.Catalogs.{Catalog, TableState, Version, find_table, schemas_of, statements_differ}
 use Rattle.catalog_model.specs.Held.{present_versions, numbers_differ, cells_held, bytes_held}
@@ -15,6 +16,7 @@ IsLoaded tables place = option_map (λ table. table.schema) (find_table tables p
 
 -- a catalog, beside the versions that cursors hold
 pub record IsCatalog (held : List Version) (catalog : Catalog) : Type 0 where
+  pub weights : AreWeights catalog.weights
   -- no name and no number of a version stands twice
   pub table_names : IsTrue (names_differ (schemas_of catalog.tables))
   pub statement_names : IsTrue (statements_differ catalog.statements)

@@ -1,8 +1,9 @@
-//! What a session's catalog is: tables with their versions, prepared statements, and what is kept or refused.
+//! What a session's catalog is: tables with their versions and indexes, prepared statements, and what is kept or refused.
 //!
 //! It holds definitions, limits and laws alone, and knows no script line and no reply. `Catalog` is what is kept;
-//! `loading_of`, `preparing_of` and `instance_of` say what a load, a preparation and an execution's statement are, or
-//! their first refusal. The store is proved to keep a catalog, and a step of the session to change one.
+//! `loading_of`, `indexing_of`, `preparing_of` and `instance_of` say what a load, an indexing, a preparation and an
+//! execution's statement are, or their first refusal. The store is proved to keep a catalog, and a step of the session
+//! to change one.
 #![tactic(auto)]
 
 /// The most tables that are kept.

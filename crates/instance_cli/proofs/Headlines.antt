@@ -9,6 +9,7 @@ use Rattle.outside_model.specs.declared.TheConstants.{SCRIPT_LIMIT}
 use Rattle.outside_model.specs.Files.{Files, Told, up_to}
 use Rattle.outside_model.specs.Outside.{Outside}
 use Rattle.session_model.specs.Run.{IsChain, spoken_lines, report_text}
+use Rattle.instance_cli.proofs.Bounded.{bounded_along}
 use Rattle.instance_cli.specs.Bytes.{RunsBytes}
 use Rattle.instance_cli.specs.Headline.{Headline, TookNothing}
 use Rattle.instance_cli.specs.Report.{ServesLine, Starts, ReportsRun, ReportsPrefix}
@@ -60,42 +61,50 @@ starts_before before middle f first s = let m = f.misses in let n = s.misses in
 
 run_before : (bytes : List ℕ) (before middle after : Outside) (refused : Bool) → Fetched before middle
     → ReportsRun bytes middle after refused → ReportsRun bytes before after refused
-run_before bytes before middle after refused f h = record {
-  script = h.script;
-  replies = h.replies;
-  first = h.first;
-  last = h.last;
-  starts = starts_before before middle f h.first h.starts;
-  run = subst (λ (files : Option Files). IsChain (ServesLine files) h.first
-      (spoken_lines (script_of bytes)) h.replies h.last) f.files h.run;
-  ends = h.ends;
-  took = subst (λ (old : Option (List ℕ)). Told old
-      (λ taken. after.taken ≡ Some (taken ++ report_text (spoken_lines (script_of bytes)) h.replies))) f.taken h.took;
-  status = h.status;
-}
+run_before bytes before middle after refused f h =
+    let run : IsChain (ServesLine before.files) h.first (spoken_lines (script_of bytes)) h.replies h.last =
+    subst (λ (files : Option Files). IsChain (ServesLine files) h.first
+    (spoken_lines (script_of bytes)) h.replies h.last) f.files h.run in
+    record {
+      script = h.script;
+      replies = h.replies;
+      first = h.first;
+      last = h.last;
+      starts = starts_before before middle f h.first h.starts;
+      run = run;
+      bound = bounded_along before.files h.first (spoken_lines (script_of bytes)) h.replies h.last run;
+      ends = h.ends;
+      took = subst (λ (old : Option (List ℕ)). Told old
+          (λ taken. after.taken ≡ Some (taken ++ report_text (spoken_lines (script_of bytes)) h.replies))) f.taken h.took;
+      status = h.status;
+    }
 
 prefix_before : (bytes : List ℕ) (before middle after : Outside) (result : Status) → Fetched before middle
     → ReportsPrefix bytes middle after result → ReportsPrefix bytes before after result
-prefix_before bytes before middle after result f h = record {
-  script = h.script;
-  done = h.done;
-  rest = h.rest;
-  parts = h.parts;
-  first = h.first;
-  middle = h.middle;
-  last = h.last;
-  replies = h.replies;
-  others = h.others;
-  starts = starts_before before middle f h.first h.starts;
-  run = subst (λ (files : Option Files). IsChain (ServesLine files) h.first h.done h.replies h.middle) f.files h.run;
-  ends = h.ends;
-  goes_on = subst (λ (files : Option Files). IsChain (ServesLine files) h.middle h.rest h.others h.last) f.files
-      h.goes_on;
-  cut = h.cut;
-  took = subst (λ (old : Option (List ℕ)). Told old
-      (λ taken. after.taken ≡ Some (taken ++ (report_text h.done h.replies ++ h.cut)))) f.taken h.took;
-  next = h.next;
-}
+prefix_before bytes before middle after result f h =
+    let run : IsChain (ServesLine before.files) h.first h.done h.replies h.middle =
+    subst (λ (files : Option Files). IsChain (ServesLine files) h.first h.done h.replies h.middle) f.files h.run in
+    record {
+      script = h.script;
+      done = h.done;
+      rest = h.rest;
+      parts = h.parts;
+      first = h.first;
+      middle = h.middle;
+      last = h.last;
+      replies = h.replies;
+      others = h.others;
+      starts = starts_before before middle f h.first h.starts;
+      run = run;
+      bound = bounded_along before.files h.first h.done h.replies h.middle run;
+      ends = h.ends;
+      goes_on = subst (λ (files : Option Files). IsChain (ServesLine files) h.middle h.rest h.others h.last) f.files
+          h.goes_on;
+      cut = h.cut;
+      took = subst (λ (old : Option (List ℕ)). Told old
+          (λ taken. after.taken ≡ Some (taken ++ (report_text h.done h.replies ++ h.cut)))) f.taken h.took;
+      next = h.next;
+    }
 
 nothing_before : (before middle after : Outside) → Fetched before middle → TookNothing middle after
     → TookNothing before after

@@ -1,3 +1,4 @@
+pub mod Bounded
 pub mod Headlines
 pub mod Runs
 pub mod Scripts

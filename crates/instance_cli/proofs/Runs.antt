@@ -7,7 +7,8 @@ use Rattle.script_report.specs.declared.replies.Reply.{Reply}
 use Rattle.session_model.specs.Run.{Line, is_silent, is_refusal, some_refusal, spoken_from, report_text}
 use Rattle.session_model.proofs.Chains.{chained, reported}
 use Rattle.instance_cli.specs.Lines.{Reported, ReportedInPart, Stops, WritesInPart}
-use Rattle.instance_cli.specs.Report.{Moment, ServesLine, NextAsks}
+use Rattle.instance_cli.specs.Moments.{Moment}
+use Rattle.instance_cli.specs.Report.{ServesLine, NextAsks}
 use Rattle.instance_cli.specs.declared.outcome.Status.{Status}
 use Rattle.instance_cli.specs.declared.outcome.Status.TheVariants as status
 

@@ -10,7 +10,8 @@ use Rattle.session_model.specs.Run.{Line, is_silent, is_refusal, spoken_from}
 use Rattle.session_model.specs.Step.{Step, asks_for, file_of}
 use Rattle.session_model.proofs.WholeFiles.{whole}
 use Rattle.instance_cli.specs.Lines.{Answers, Reported, ReportedInPart}
-use Rattle.instance_cli.specs.Report.{Moment, IsMissed, Serves}
+use Rattle.instance_cli.specs.Moments.{Moment}
+use Rattle.instance_cli.specs.Report.{IsMissed, Serves}
 use Rattle.instance_cli.specs.declared.outcome.Status.{Status}
 use Rattle.instance_cli.specs.declared.outcome.Status.TheVariants.{ReadFault, WriteFault, Memory}
 

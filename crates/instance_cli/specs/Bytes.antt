@@ -9,7 +9,8 @@ use Rattle.session_model.specs.State.{initial_state}
 use Rattle.instance_cli.specs.Defaults.{default_settings}
 use Rattle.instance_cli.specs.Headline.{TookNothing}
 use Rattle.instance_cli.specs.Lines.{Reported, ReportedInPart}
-use Rattle.instance_cli.specs.Report.{Moment, ReportsRun, ReportsPrefix}
+use Rattle.instance_cli.specs.Moments.{Moment}
+use Rattle.instance_cli.specs.Report.{ReportsRun, ReportsPrefix}
 use Rattle.instance_cli.specs.Script.{script_of}
 use Rattle.instance_cli.specs.declared.outcome.Status.{Status}
 use Rattle.instance_cli.specs.declared.outcome.Status.TheVariants as status

@@ -1,7 +1,10 @@
+pub mod Bound
 pub mod Bytes
 pub mod Defaults
 pub mod Headline
 pub mod Lines
+pub mod Moments
+pub mod Outsides
 pub mod Report
 pub mod Script
 pub mod Statuses

@@ -5,7 +5,8 @@ use Rattle.script_report.specs.Commands.{Reading}
 use Rattle.script_report.specs.Replies.{reply_text}
 use Rattle.script_report.specs.declared.replies.Reply.{Reply}
 use Rattle.session_model.specs.Run.{Line, IsChain, is_silent, report_text, some_refusal}
-use Rattle.instance_cli.specs.Report.{Moment, Serves, ServesLine, NextAsks}
+use Rattle.instance_cli.specs.Moments.{Moment}
+use Rattle.instance_cli.specs.Report.{Serves, ServesLine, NextAsks}
 use Rattle.instance_cli.specs.declared.outcome.Status.{Status}
 use Rattle.instance_cli.specs.declared.outcome.Status.TheVariants as status
 

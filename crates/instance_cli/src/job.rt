@@ -1,9 +1,9 @@
 //! The whole job: words, script, lines.
 ghost use Rattle.std.specs.Prelude.{◌≡◌, ◌≤◌, ◌<◌, ◌+◌, ◌^◌, length, map, string_bytes, IfOk};
 ghost use Rattle.std.specs.Str.Lines.{lines as lines_of};
-ghost use Rattle.outside_model.specs.Outside.{Outside};
 ghost use Rattle.instance_cli.specs.Bytes.{RunsBytes, RunsLines};
 ghost use Rattle.instance_cli.specs.Headline.{Headline, TopPromise};
+ghost use Rattle.instance_cli.specs.Outsides.{outside_of};
 ghost use Rattle.instance_cli.specs.Script as texts;
 ghost use Rattle.instance_cli.specs.Words as meaning;
 
@@ -42,20 +42,8 @@ fn run_lines<F: Shelf, K: Sink>(
 ) -> Status
     requires { length lines.now < 2 ^ 50 }
     ensures { RunsLines (map (λ line. line.now) lines.now)
-        (record {
-          files = F.files shelf.old;
-          taken = K.taken sink.old;
-          faults = F.faults shelf.old;
-          misses = F.misses shelf.old;
-          sink_faults = K.faults sink.old;
-        })
-        (record {
-          files = F.files shelf.new;
-          taken = K.taken sink.new;
-          faults = F.faults shelf.new;
-          misses = F.misses shelf.new;
-          sink_faults = K.faults sink.new;
-        })
+        (outside_of (F.files shelf.old) (K.taken sink.old) (F.faults shelf.old) (F.misses shelf.old) (K.faults sink.old))
+        (outside_of (F.files shelf.new) (K.taken sink.new) (F.faults shelf.new) (F.misses shelf.new) (K.faults sink.new))
         result }
 {
     match serve_lines(alloc, lines, shelf, sink) {
@@ -68,20 +56,8 @@ fn run_lines<F: Shelf, K: Sink>(
 /// Runs a script of these bytes.
 fn run_bytes<F: Shelf, K: Sink>(alloc: Global, bytes: &[u8], shelf: &mut F, sink: &mut K) -> Status
     ensures { RunsBytes bytes.now
-        (record {
-          files = F.files shelf.old;
-          taken = K.taken sink.old;
-          faults = F.faults shelf.old;
-          misses = F.misses shelf.old;
-          sink_faults = K.faults sink.old;
-        })
-        (record {
-          files = F.files shelf.new;
-          taken = K.taken sink.new;
-          faults = F.faults shelf.new;
-          misses = F.misses shelf.new;
-          sink_faults = K.faults sink.new;
-        })
+        (outside_of (F.files shelf.old) (K.taken sink.old) (F.faults shelf.old) (F.misses shelf.old) (K.faults sink.old))
+        (outside_of (F.files shelf.new) (K.taken sink.new) (F.faults shelf.new) (F.misses shelf.new) (K.faults sink.new))
         result }
 {
     if bytes.len() > SCRIPT_LIMIT {
@@ -99,20 +75,8 @@ fn run_bytes<F: Shelf, K: Sink>(alloc: Global, bytes: &[u8], shelf: &mut F, sink
 /// Runs the script of this name.
 fn run_script<F: Shelf, K: Sink>(alloc: Global, name: &str, shelf: &mut F, sink: &mut K) -> Status
     ensures { Headline name.now
-        (record {
-          files = F.files shelf.old;
-          taken = K.taken sink.old;
-          faults = F.faults shelf.old;
-          misses = F.misses shelf.old;
-          sink_faults = K.faults sink.old;
-        })
-        (record {
-          files = F.files shelf.new;
-          taken = K.taken sink.new;
-          faults = F.faults shelf.new;
-          misses = F.misses shelf.new;
-          sink_faults = K.faults sink.new;
-        })
+        (outside_of (F.files shelf.old) (K.taken sink.old) (F.faults shelf.old) (F.misses shelf.old) (K.faults sink.old))
+        (outside_of (F.files shelf.new) (K.taken sink.new) (F.faults shelf.new) (F.misses shelf.new) (K.faults sink.new))
         result }
 {
     let mut bytes = Vec::new(alloc);
@@ -133,20 +97,8 @@ pub fn scr<F: Shelf, K: Sink>(
     sink: &mut K,
 ) -> Status
     ensures { TopPromise (meaning.mode_of (map (λ word. string_bytes word) words.now))
-        (record {
-          files = F.files shelf.old;
-          taken = K.taken sink.old;
-          faults = F.faults shelf.old;
-          misses = F.misses shelf.old;
-          sink_faults = K.faults sink.old;
-        })
-        (record {
-          files = F.files shelf.new;
-          taken = K.taken sink.new;
-          faults = F.faults shelf.new;
-          misses = F.misses shelf.new;
-          sink_faults = K.faults sink.new;
-        })
+        (outside_of (F.files shelf.old) (K.taken sink.old) (F.faults shelf.old) (F.misses shelf.old) (K.faults sink.old))
+        (outside_of (F.files shelf.new) (K.taken sink.new) (F.faults shelf.new) (F.misses shelf.new) (K.faults sink.new))
         result }
 {
     match mode_of(words) {

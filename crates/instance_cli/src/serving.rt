@@ -14,10 +14,12 @@ ghost use Rattle.session_model.specs.State.{initial_state};
 ghost use Rattle.session_model.specs.Step.{asks_for, file_of};
 ghost use Rattle.instance_cli.specs.Defaults.{default_settings as defaults};
 ghost use Rattle.instance_cli.specs.Lines.{Answers, Reported, ReportedInPart};
-ghost use Rattle.instance_cli.specs.Report.{IsMissed, Moment, Serves};
+ghost use Rattle.instance_cli.specs.Moments.{Moment};
+ghost use Rattle.instance_cli.specs.Report.{IsMissed, Serves};
 
 use crate::defaults::default_settings;
 use crate::outcome::Status;
+use join_optimizer::Optimizer;
 use outside_io::{Fetched, Put, Shelf, Sink};
 use outside_model::FILE_LIMIT;
 use script_report::{Command, LineFault, Reply, read_line, reply_text};
@@ -63,7 +65,7 @@ fn fetch_for<F: Shelf>(alloc: Global, command: &Command, shelf: &mut F, into: &m
 /// The reply to a command, over its file.
 fn command_reply<F: Shelf>(
     alloc: Global,
-    engine: &mut Engine,
+    engine: &mut Engine<Optimizer>,
     command: &Command,
     shelf: &mut F,
 ) -> Result<Reply, Status>
@@ -95,7 +97,7 @@ fn command_reply<F: Shelf>(
 /// The reply to a line, if it gets one.
 fn reply_for<F: Shelf>(
     alloc: Global,
-    engine: &mut Engine,
+    engine: &mut Engine<Optimizer>,
     text: &str,
     shelf: &mut F,
 ) -> Result<Option<Reply>, Status>
@@ -161,7 +163,7 @@ fn is_refused(reply: &Reply) -> bool
 /// Serves one line of this number, and tells whether it was refused.
 fn serve_line<F: Shelf, K: Sink>(
     alloc: Global,
-    engine: &mut Engine,
+    engine: &mut Engine<Optimizer>,
     number: u64,
     text: &str,
     shelf: &mut F,
@@ -217,7 +219,7 @@ pub fn serve_lines<F: Shelf, K: Sink>(
     ensures read_cause { result ≡ Err Status.ReadFault → Rose (F.faults shelf.old) (F.faults shelf.new) }
     ensures write_cause { result ≡ Err Status.WriteFault → Rose (K.faults sink.old) (K.faults sink.new) }
 {
-    let mut engine = Engine::new(alloc, default_settings());
+    let mut engine = Engine::new(alloc, default_settings(), Optimizer::new());
     let mut refused = false;
     for (i, line) in lines.iter().enumerate() {
         match serve_line(alloc, &mut engine, i as u64 + 1, line, shelf, sink) {

@@ -39,6 +39,8 @@ fn worked_examples(rt: HostRuntime) -> Result<(), Fail> {
          plan rows(seq(t))\n\
          cost 3298534883328\n\
          at 2\n\
+         cert {\"kind\":\"optimum\",\"least\":\"3298534883328\",\
+         \"table\":[{\"any\":\"3298534883328\",\"set\":1,\"sorted\":null}]}\n\
          row 1\n\
          row 5\n\
          end 2\n";
@@ -47,17 +49,31 @@ fn worked_examples(rt: HostRuntime) -> Result<(), Fail> {
         "byte order mark and CRLF"
     );
     let second =
-        "load t t.csv\nfrob\nprepare q SELECT v FROM u WHERE v < ?\nload u none.csv\nindex t v\n";
+        "load t t.csv\nfrob\nprepare q SELECT v FROM u WHERE v < ?\nload u none.csv\nindex u v\n";
     let refused = "1 loaded t rows 3 columns 1\n\
          2 refused 1 syntax\n\
          3 refused 2 unknown table u\n\
          4 refused 13 missing file\n\
-         5 refused 21 not built yet\n";
+         5 refused 2 unknown table u\n";
     assert!(rt;
         ends_with(rt.alloc(), second.as_bytes(), refused, Status::DoneRefused)?,
         "refusals"
     );
     Ok(())
+}
+
+/// What is written of a script over these files, and the status.
+fn run_of(alloc: Global, files: &[(&str, &str)], script: &str) -> Result<(String, Status), Fail> {
+    let mut shelf = SureShelf::new(alloc);
+    shelf.put_file("a.scr", script.as_bytes())?;
+    for (name, text) in files {
+        shelf.put_file(name, text.as_bytes())?;
+    }
+    let mut sink = SureSink::new(alloc);
+    let words = run_words(alloc, "a.scr")?;
+    let status = scr(alloc, words.as_slice(), &mut shelf, &mut sink);
+    let report = str::from_utf8(sink.taken()).map_err(|_| Fail::from("no text"))?;
+    Ok((String::from_str(alloc, report)?, status))
 }
 
 /// Whether the job over this script and these files ends so and writes this.
@@ -67,16 +83,9 @@ fn reports(
     script: &str,
     report: &str,
     want: Status,
-) -> Result<bool, OutOfMemory> {
-    let mut shelf = SureShelf::new(alloc);
-    shelf.put_file("a.scr", script.as_bytes())?;
-    for (name, text) in files {
-        shelf.put_file(name, text.as_bytes())?;
-    }
-    let mut sink = SureSink::new(alloc);
-    let words = run_words(alloc, "a.scr")?;
-    let status = scr(alloc, words.as_slice(), &mut shelf, &mut sink);
-    Ok(status == want && sink.taken() == report.as_bytes())
+) -> Result<bool, Fail> {
+    let (written, status) = run_of(alloc, files, script)?;
+    Ok(status == want && written.as_str() == report)
 }
 
 #[test]
@@ -91,38 +100,43 @@ fn ends_of_ranges(rt: HostRuntime) -> Result<(), Fail> {
             "v <= ?",
             "run q 5",
             "parameters 1",
-            "at 3\nrow 5\nrow 5\nrow -9223372036854775808\nend 3\n",
+            "at 3",
+            "row 5\nrow 5\nrow -9223372036854775808\nend 3\n",
         ),
         (
             "at least",
             "v >= ?",
             "run q 5",
             "parameters 1",
-            "at 4\nrow 5\nrow 5\nrow 7\nrow 9223372036854775807\nend 4\n",
+            "at 4",
+            "row 5\nrow 5\nrow 7\nrow 9223372036854775807\nend 4\n",
         ),
         (
             "below the least number",
             "v < ?",
             "run q -9223372036854775808",
             "parameters 1",
-            "at 1\nend 0\n",
+            "at 1",
+            "end 0\n",
         ),
         (
             "ends that cross",
             "v BETWEEN ? AND ?",
             "run q 7 5",
             "parameters 2",
-            "at 1\nend 0\n",
+            "at 1",
+            "end 0\n",
         ),
         (
             "both ends are taken",
             "v BETWEEN ? AND ?",
             "run q 5 7",
             "parameters 2",
-            "at 3\nrow 5\nrow 5\nrow 7\nend 3\n",
+            "at 3",
+            "row 5\nrow 5\nrow 7\nend 3\n",
         ),
     ];
-    for (what, test, run, parameters, rows) in cases {
+    for (what, test, run, parameters, at, rows) in cases {
         let script = format!(in rt.alloc();
             "load t n.csv\nprepare q SELECT v FROM t WHERE {test}\n{run}\n"
         )?;
@@ -132,6 +146,9 @@ fn ends_of_ranges(rt: HostRuntime) -> Result<(), Fail> {
              3 ran q execution 1\n\
              plan rows(seq(t))\n\
              cost 5497558138880\n\
+             {at}\n\
+             cert {{\"kind\":\"optimum\",\"least\":\"5497558138880\",\
+             \"table\":[{{\"any\":\"5497558138880\",\"set\":1,\"sorted\":null}}]}}\n\
              {rows}"
         )?;
         assert!(rt;
@@ -144,6 +161,149 @@ fn ends_of_ranges(rt: HostRuntime) -> Result<(), Fail> {
             )?,
             "{what}"
         );
+    }
+    Ok(())
+}
+
+/// So many rows of a number that begins anew after this many, and the row's own number.
+fn numbered_rows(
+    alloc: Global,
+    header: &str,
+    rows: u64,
+    different: u64,
+) -> Result<String, OutOfMemory> {
+    let mut text = format!(in alloc; "{header}\n")?;
+    for row in 0..rows {
+        write!(text, "{},{}\n", row % different + 1, row + 1)?;
+    }
+    Ok(text)
+}
+
+#[test]
+fn smallest_pair_first_is_not_least(rt: HostRuntime) -> Result<(), Fail> {
+    let a = numbered_rows(rt.alloc(), "x,y", 8, 8)?;
+    let b = numbered_rows(rt.alloc(), "x,z", 1024, 1024)?;
+    let c = numbered_rows(rt.alloc(), "y,z", 1024, 512)?;
+    let files = [
+        ("a.csv", a.as_str()),
+        ("b.csv", b.as_str()),
+        ("c.csv", c.as_str()),
+    ];
+    let script = "load a a.csv\nload b b.csv\nload c c.csv\nindex c y\nindex b z\n\
+         prepare q SELECT a.x FROM a, b, c WHERE a.x = b.x AND a.y = c.y AND b.z = c.z\nrun q\n";
+    let report = "1 loaded a rows 8 columns 2\n\
+         2 loaded b rows 1024 columns 2\n\
+         3 loaded c rows 1024 columns 2\n\
+         4 indexed c y\n\
+         5 indexed b z\n\
+         6 prepared q tables 3 predicates 0 parameters 0\n\
+         7 ran q execution 1\n\
+         plan rows(probe(probe(seq(a),c,2),b,3))\n\
+         cost 387045272846336\n\
+         at\n\
+         cert {\"kind\":\"optimum\",\"least\":\"387045272846336\",\
+         \"table\":[{\"any\":\"8796093022208\",\"set\":1,\"sorted\":null},\
+         {\"any\":\"1125899906842624\",\"set\":2,\"sorted\":null},\
+         {\"any\":\"3412884092616704\",\"set\":3,\"sorted\":null},\
+         {\"any\":\"1125899906842624\",\"set\":4,\"sorted\":null},\
+         {\"any\":\"158329674399744\",\"set\":5,\"sorted\":null},\
+         {\"any\":\"7881299347898368\",\"set\":6,\"sorted\":null},\
+         {\"any\":\"387045272846336\",\"set\":7,\"sorted\":null}]}\n\
+         row 1\nrow 2\nrow 3\nrow 4\nrow 5\nrow 6\nrow 7\nrow 8\nend 8\n";
+    assert!(rt;
+        reports(rt.alloc(), &files, script, report, Status::Done)?,
+        "two probes, not the join of the smallest pair"
+    );
+    Ok(())
+}
+
+/// So many rows, a number from 1 in each.
+fn counted_rows(
+    alloc: Global,
+    header: &str,
+    rows: u64,
+    before: &str,
+    behind: &str,
+) -> Result<String, OutOfMemory> {
+    let mut text = format!(in alloc; "{header}\n")?;
+    for row in 0..rows {
+        write!(text, "{before}{}{behind}\n", row + 1)?;
+    }
+    Ok(text)
+}
+
+// Which of several plans of least cost runs is free, so these cases look for lines that every report has.
+#[test]
+fn costs_and_rows_whatever_the_plan(rt: HostRuntime) -> Result<(), Fail> {
+    let k = numbered_rows(rt.alloc(), "v,w", 1000, 1000)?;
+    let one = counted_rows(rt.alloc(), "x", 100, "", "")?;
+    let b = counted_rows(rt.alloc(), "x,m", 100, "", ",1")?;
+    let c = counted_rows(rt.alloc(), "m,y", 100, "1,", "")?;
+    let d = counted_rows(rt.alloc(), "y", 100, "", "")?;
+    let large = counted_rows(rt.alloc(), "v", 40_000, "", "")?;
+    let many = counted_rows(rt.alloc(), "v", 1001, "", "")?;
+    let files = [
+        ("k.csv", k.as_str()),
+        ("a.csv", one.as_str()),
+        ("b.csv", b.as_str()),
+        ("c.csv", c.as_str()),
+        ("d.csv", d.as_str()),
+        ("large.csv", large.as_str()),
+        ("many.csv", many.as_str()),
+        ("l.csv", "k\n1\n1\n2\n"),
+        ("r.csv", "k,n\n1,10\n1,20\n3,30\n"),
+    ];
+    let cases = [
+        (
+            "an index gives the wanted order, and a sort of 1,000 rows costs more",
+            "load t k.csv\nindex t v\nprepare q SELECT v FROM t WHERE w < ? ORDER BY v\nrun q 501\n",
+            "plan rows(full(t.v))\ncost 2210018371829760\nat 500\n",
+        ),
+        (
+            "of 50 rows the sort costs less",
+            "load t k.csv\nindex t v\nprepare q SELECT v FROM t WHERE w < ? ORDER BY v\nrun q 51\n",
+            "plan rows(sort(seq(t)))\ncost 1649267441664000\nat 50\n",
+        ),
+        (
+            "an index makes a range cheaper",
+            "load t k.csv\nprepare q SELECT v FROM t WHERE v < ?\nindex t v\nrun q 2\n",
+            "plan rows(range(t.v,1))\ncost 13194139533312\nat 1\n",
+        ),
+        (
+            "a hash join of two joins",
+            "load a a.csv\nload b b.csv\nload c c.csv\nload d d.csv\n\
+             prepare q SELECT a.x FROM a, b, c, d WHERE a.x = b.x AND b.m = c.m AND c.y = d.y\nrun q\n",
+            "cost 12974237207756800\nat\n",
+        ),
+        (
+            "duplicate join keys",
+            "load l l.csv\nload r r.csv\nprepare q SELECT l.k, r.n FROM l, r WHERE l.k = r.k\nrun q\n",
+            "row 1,10\nrow 1,20\nrow 1,10\nrow 1,20\nend 4\n",
+        ),
+        (
+            "a table joined with itself",
+            "load l l.csv\nprepare q SELECT x.k FROM l AS x, l AS y WHERE x.k = y.k\nrun q\n",
+            "row 1\nrow 1\nrow 1\nrow 1\nrow 2\nend 5\n",
+        ),
+        (
+            "keys that don't meet",
+            "load l l.csv\nload r r.csv\nprepare q SELECT l.k FROM l, r WHERE l.k = r.n\nrun q\n",
+            "\nend 0\n",
+        ),
+        (
+            "a wide statement is refused when it runs",
+            "load t large.csv\nprepare q SELECT a.v FROM t a, t b, t c, t d, t e\nrun q\n",
+            "2 prepared q tables 5 predicates 0 parameters 0\n3 refused 11 wide e\n",
+        ),
+        (
+            "1,002,001 rows are too many",
+            "load t many.csv\nprepare q SELECT a.v FROM t a, t b\nrun q\n",
+            "3 refused 12 too many rows\n",
+        ),
+    ];
+    for (what, script, want) in cases {
+        let (report, _) = run_of(rt.alloc(), &files, script)?;
+        assert!(rt; report.as_str().contains(want), "{what}");
     }
     Ok(())
 }
@@ -195,6 +355,8 @@ fn tables_and_statements(rt: HostRuntime) -> Result<(), Fail> {
              plan rows(seq(t))\n\
              cost 1099511627776\n\
              at 1\n\
+             cert {\"kind\":\"optimum\",\"least\":\"1099511627776\",\
+             \"table\":[{\"any\":\"1099511627776\",\"set\":1,\"sorted\":null}]}\n\
              end 0\n",
             Status::Done,
         ),
@@ -207,6 +369,8 @@ fn tables_and_statements(rt: HostRuntime) -> Result<(), Fail> {
              plan rows(seq(t))\n\
              cost 3298534883328\n\
              at\n\
+             cert {\"kind\":\"optimum\",\"least\":\"3298534883328\",\
+             \"table\":[{\"any\":\"3298534883328\",\"set\":1,\"sorted\":null}]}\n\
              row 1\n\
              row 5\n\
              row 12\n\
@@ -215,6 +379,8 @@ fn tables_and_statements(rt: HostRuntime) -> Result<(), Fail> {
              plan rows(seq(t))\n\
              cost 3298534883328\n\
              at\n\
+             cert {\"kind\":\"optimum\",\"least\":\"3298534883328\",\
+             \"table\":[{\"any\":\"3298534883328\",\"set\":1,\"sorted\":null}]}\n\
              row 1\n\
              row 5\n\
              row 12\n\
@@ -232,6 +398,8 @@ fn tables_and_statements(rt: HostRuntime) -> Result<(), Fail> {
              plan rows(seq(o))\n\
              cost 2199023255552\n\
              at\n\
+             cert {\"kind\":\"optimum\",\"least\":\"2199023255552\",\
+             \"table\":[{\"any\":\"2199023255552\",\"set\":1,\"sorted\":null}]}\n\
              row \"Bad \\\"Ems\\\"\",7\n\
              end 1\n",
             Status::Done,
@@ -251,6 +419,8 @@ fn tables_and_statements(rt: HostRuntime) -> Result<(), Fail> {
              plan rows(seq(t))\n\
              cost 1099511627776\n\
              at 1\n\
+             cert {\"kind\":\"optimum\",\"least\":\"1099511627776\",\
+             \"table\":[{\"any\":\"1099511627776\",\"set\":1,\"sorted\":null}]}\n\
              row 7\n\
              end 1\n\
              5 refused 15 not a table not csv 2\n\
@@ -258,36 +428,60 @@ fn tables_and_statements(rt: HostRuntime) -> Result<(), Fail> {
              plan rows(seq(t))\n\
              cost 1099511627776\n\
              at 1\n\
+             cert {\"kind\":\"optimum\",\"least\":\"1099511627776\",\
+             \"table\":[{\"any\":\"1099511627776\",\"set\":1,\"sorted\":null}]}\n\
              row 7\n\
              end 1\n",
             Status::DoneRefused,
         ),
         (
-            "what isn't built yet",
+            "a group, an order, four predicates, and what isn't built yet",
             "load t t.csv\n\
-             prepare two SELECT a.v FROM t a, t b\n\
-             run two\n\
-             prepare g SELECT COUNT(*) FROM t GROUP BY v\n\
+             prepare g SELECT v, COUNT(*) FROM t GROUP BY v\n\
              run g\n\
-             prepare o SELECT v FROM t ORDER BY v\n\
+             prepare o SELECT v FROM t ORDER BY v DESC\n\
              run o\n\
              prepare four SELECT v FROM t WHERE v < ? AND v < ? AND v < ? AND v < ?\n\
              run four 1 2 3\n\
-             run four 1 2 3 4\n\
-             index t v\n\
-             show two\n",
+             index t w\n\
+             index s v\n\
+             show g\n\
+             evict g 1\n\
+             cursor c g\n\
+             fetch c 1\n\
+             close c\n",
             "1 loaded t rows 3 columns 1\n\
-             2 prepared two tables 2 predicates 0 parameters 0\n\
-             3 refused 21 not built yet\n\
-             4 prepared g tables 1 predicates 0 parameters 0\n\
-             5 refused 21 not built yet\n\
-             6 prepared o tables 1 predicates 0 parameters 0\n\
-             7 refused 21 not built yet\n\
-             8 prepared four tables 1 predicates 4 parameters 4\n\
-             9 refused 9 argument count 4\n\
+             2 prepared g tables 1 predicates 0 parameters 0\n\
+             3 ran g execution 1\n\
+             plan hash_groups(seq(t))\n\
+             cost 9895604649984\n\
+             at\n\
+             cert {\"kind\":\"optimum\",\"least\":\"9895604649984\",\
+             \"table\":[{\"any\":\"3298534883328\",\"set\":1,\"sorted\":\"9895604649984\"}]}\n\
+             row 1,1\n\
+             row 5,1\n\
+             row 12,1\n\
+             end 3\n\
+             4 prepared o tables 1 predicates 0 parameters 0\n\
+             5 ran o execution 2\n\
+             plan rows(sort(seq(t)))\n\
+             cost 9895604649984\n\
+             at\n\
+             cert {\"kind\":\"optimum\",\"least\":\"9895604649984\",\
+             \"table\":[{\"any\":\"3298534883328\",\"set\":1,\"sorted\":\"9895604649984\"}]}\n\
+             row 12\n\
+             row 5\n\
+             row 1\n\
+             end 3\n\
+             6 prepared four tables 1 predicates 4 parameters 4\n\
+             7 refused 9 argument count 4\n\
+             8 refused 3 unknown column w\n\
+             9 refused 2 unknown table s\n\
              10 refused 21 not built yet\n\
              11 refused 21 not built yet\n\
-             12 refused 21 not built yet\n",
+             12 refused 21 not built yet\n\
+             13 refused 21 not built yet\n\
+             14 refused 21 not built yet\n",
             Status::DoneRefused,
         ),
         (
@@ -305,12 +499,16 @@ fn tables_and_statements(rt: HostRuntime) -> Result<(), Fail> {
              plan rows(seq(t))\n\
              cost 3298534883328\n\
              at 1\n\
+             cert {\"kind\":\"optimum\",\"least\":\"3298534883328\",\
+             \"table\":[{\"any\":\"3298534883328\",\"set\":1,\"sorted\":null}]}\n\
              row 5\n\
              end 1\n\
              4 ran q execution 2\n\
              plan rows(seq(t))\n\
              cost 3298534883328\n\
              at 2\n\
+             cert {\"kind\":\"optimum\",\"least\":\"3298534883328\",\
+             \"table\":[{\"any\":\"3298534883328\",\"set\":1,\"sorted\":null}]}\n\
              row 5\n\
              row 12\n\
              end 2\n\
@@ -352,7 +550,7 @@ fn tables_and_statements(rt: HostRuntime) -> Result<(), Fail> {
 }
 
 /// Whether the 65th table and the 257th statement are refused, and a table that is known is loaded again.
-fn refuses_one_more(alloc: Global) -> Result<bool, OutOfMemory> {
+fn refuses_one_more(alloc: Global) -> Result<bool, Fail> {
     let mut script = String::new(alloc);
     let mut report = String::new(alloc);
     for i in 0..64_u64 {

@@ -4,9 +4,11 @@ use Rattle.std.specs.Fmt.{decimal}
 use Rattle.row_values.specs.Names.{canonical_name}
 use Rattle.row_values.specs.Refusals.{refusal_words}
 use Rattle.row_values.specs.declared.refusals.Refusal.{Refusal}
+use Rattle.bound_certificate.specs.Certificates.{certificate_text}
+use Rattle.bound_certificate.specs.declared.certificates.Cert.{Cert}
 use Rattle.script_report.specs.declared.replies.Execution.{Execution}
 use Rattle.script_report.specs.declared.replies.Reply.{Reply}
-use Rattle.script_report.specs.declared.replies.Reply.TheVariants.{Loaded, Prepared, Ran, Refused, Spent}
+use Rattle.script_report.specs.declared.replies.Reply.TheVariants.{Loaded, Indexed, Prepared, Ran, Refused, Spent}
 
 -- `L loaded T rows R columns K`
 abbrev pub loaded_text : ℕ → List ℕ → ℕ → ℕ → List ℕ
@@ -14,6 +16,11 @@ loaded_text line table rows columns =
     decimal line ++ (codes " loaded "
     ++ (canonical_name table ++ (codes " rows "
     ++ (decimal rows ++ (codes " columns " ++ (decimal columns ++ codes "\n"))))))
+
+-- `L indexed T COL`
+abbrev pub indexed_text : ℕ → List ℕ → List ℕ → List ℕ
+indexed_text line table column =
+    (((decimal line ++ codes " indexed ") ++ canonical_name table) ++ codes " ") ++ canonical_name column ++ codes "\n"
 
 -- `L prepared NAME tables M predicates K parameters J`
 abbrev pub prepared_text : ℕ → List ℕ → ℕ → ℕ → ℕ → List ℕ
@@ -33,10 +40,14 @@ abbrev pub plan_lines : Execution → List ℕ
 plan_lines e = codes " execution "
     ++ (decimal e.number ++ (codes "\nplan " ++ (e.spelled ++ (codes "\ncost " ++ (decimal e.cost ++ codes "\nat")))))
 
--- `L ran NAME execution E`, then the plan, its cost, and the selectivity vector
+-- `cert JSON`
+abbrev pub certificate_line : Cert → List ℕ
+certificate_line cert = codes "cert " ++ (certificate_text cert ++ codes "\n")
+
+-- `L ran NAME execution E`, then the plan, its cost, the selectivity vector, and the certificate
 abbrev pub execution_text : ℕ → Execution → List ℕ
-execution_text line e = (((decimal line ++ codes " ran ") ++ canonical_name e.name) ++ plan_lines e)
-    ++ (numbers_text e.at ++ codes "\n")
+execution_text line e = ((((decimal line ++ codes " ran ") ++ canonical_name e.name) ++ plan_lines e)
+    ++ (numbers_text e.at ++ codes "\n")) ++ certificate_line e.cert
 
 -- a line for each row
 abbrev pub lines_text : List (List ℕ) → List ℕ
@@ -64,6 +75,7 @@ refused_text line refusal =
 -- the lines of a reply to the line of this number
 abbrev pub reply_text : ℕ → Reply → List ℕ
 reply_text line (Loaded table rows columns) = loaded_text line table rows columns
+reply_text line (Indexed table column) = indexed_text line table column
 reply_text line (Prepared name tables predicates parameters) = prepared_text line name tables predicates parameters
 reply_text line (Ran execution rows) = ran_text line execution rows
 reply_text line (Refused refusal) = refused_text line refusal

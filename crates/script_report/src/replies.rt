@@ -7,6 +7,7 @@ ghost use Rattle.row_values.specs.Names.{canonical_name};
 ghost use Rattle.row_values.specs.Refusals.{refusal_words as known_words};
 ghost use Rattle.script_report.specs.Replies as report;
 
+use bound_certificate::{Cert, to_text};
 use plan_trees::Vector;
 use row_values::{OutOfMemory, Refusal, Words, push_name, refusal_words};
 use std::alloc::Global;
@@ -53,8 +54,8 @@ impl Lines {
     }
 }
 
-/// One execution of a statement: its number over the whole script, the plan that ran and what it costs, and the
-/// selectivity vector.
+/// One execution of a statement: its number over the whole script, the plan that ran and what it costs, the
+/// selectivity vector, and the certificate of that cost.
 #[derive(Debug, Drop)]
 pub struct Execution {
     pub name: Words,
@@ -62,6 +63,7 @@ pub struct Execution {
     pub spelled: Words,
     pub cost: u128,
     pub at: Vector,
+    pub cert: Cert,
 }
 
 /// The answer to a script line.
@@ -71,6 +73,10 @@ pub enum Reply {
         table: Words,
         rows: u32,
         columns: u32,
+    },
+    Indexed {
+        table: Words,
+        column: Words,
     },
     Prepared {
         name: Words,
@@ -108,6 +114,16 @@ fn push_plan(text: &mut String, execution: &Execution) -> Result<(), OutOfMemory
     Ok(())
 }
 
+/// Adds the line of a certificate.
+fn push_certificate(alloc: Global, text: &mut String, cert: &Cert) -> Result<(), OutOfMemory>
+    ensures { OnOk result (string_bytes text.new ≡ string_bytes text.old ++ report.certificate_line cert.now) }
+{
+    let spelled = to_text(alloc, cert)?;
+    let spelled = spelled.as_str();
+    write!(text, "cert {spelled}\n")?;
+    Ok(())
+}
+
 /// The lines of an execution, up to its rows.
 fn execution_text(alloc: Global, line: u64, execution: &Execution) -> Result<String, OutOfMemory>
     ensures { IfOk result (λ text. string_bytes text ≡ report.execution_text line execution.now) }
@@ -117,6 +133,7 @@ fn execution_text(alloc: Global, line: u64, execution: &Execution) -> Result<Str
     push_plan(&mut text, execution)?;
     push_numbers(&mut text, execution.at.as_slice())?;
     text.push('\n')?;
+    push_certificate(alloc, &mut text, &execution.cert)?;
     Ok(text)
 }
 
@@ -167,6 +184,18 @@ fn loaded_text(
     let mut text = format!(in alloc; "{line} loaded ")?;
     push_name(&mut text, table)?;
     write!(text, " rows {rows} columns {columns}\n")?;
+    Ok(text)
+}
+
+/// The line of an indexing.
+fn indexed_text(alloc: Global, line: u64, table: &str, column: &str) -> Result<String, OutOfMemory>
+    ensures { IfOk result (λ text. string_bytes text ≡ report.indexed_text line table.now column.now) }
+{
+    let mut text = format!(in alloc; "{line} indexed ")?;
+    push_name(&mut text, table)?;
+    text.push(' ')?;
+    push_name(&mut text, column)?;
+    text.push('\n')?;
     Ok(text)
 }
 
@@ -226,6 +255,9 @@ pub fn reply_text(alloc: Global, line: u64, r: &Reply) -> Result<Words, OutOfMem
             rows,
             columns,
         } => loaded_text(alloc, line, table.as_str(), *rows, *columns)?,
+        Reply::Indexed { table, column } => {
+            indexed_text(alloc, line, table.as_str(), column.as_str())?
+        }
         Reply::Prepared {
             name,
             tables,

@@ -1,5 +1,7 @@
 //! Lines against the commands that they give, and replies against their lines of the report.
 use crate::{Command, Execution, LineFault, Lines, Reply, read_line, reply_text};
+use bound_certificate::Cert;
+use plan_costs::{Cell, Potentials};
 use plan_trees::Vector;
 use row_values::{OutOfMemory, Refusal, SYNTAX, UNKNOWN_TABLE, Value, Words};
 use sql_parser::print;
@@ -183,6 +185,16 @@ fn words(alloc: Global, text: &str) -> Result<Words, OutOfMemory> {
     Words::of(alloc, text)
 }
 
+/// An optimum of one place, without a plan in a wanted order.
+fn optimum(alloc: Global) -> Result<Cert, OutOfMemory> {
+    let mut cells = Vec::new(alloc);
+    cells.push(Cell {
+        any: 5,
+        sorted: None,
+    })?;
+    Ok(Cert::Optimum(Potentials::of(cells, 5)))
+}
+
 /// The second execution of `q`, of this selectivity vector.
 fn execution(alloc: Global, at: &[u64]) -> Result<Execution, Fail> {
     Ok(Execution {
@@ -191,6 +203,7 @@ fn execution(alloc: Global, at: &[u64]) -> Result<Execution, Fail> {
         spelled: words(alloc, "rows(seq(t))")?,
         cost: 340282366920938463463374607431768211455,
         at: Vector::of(at).ok_or("too many numbers")?,
+        cert: optimum(alloc)?,
     })
 }
 
@@ -217,6 +230,13 @@ fn loaded(alloc: Global) -> Result<Reply, OutOfMemory> {
     })
 }
 
+fn indexed(alloc: Global) -> Result<Reply, OutOfMemory> {
+    Ok(Reply::Indexed {
+        table: words(alloc, "order id")?,
+        column: words(alloc, "v")?,
+    })
+}
+
 fn prepared(alloc: Global) -> Result<Reply, OutOfMemory> {
     Ok(Reply::Prepared {
         name: words(alloc, "q")?,
@@ -238,6 +258,7 @@ fn replies_are_spelled(rt: HostRuntime) -> Result<(), Fail> {
     let alloc = rt.alloc();
     let mut replies = Vec::new(alloc);
     replies.push(loaded(alloc)?)?;
+    replies.push(indexed(alloc)?)?;
     replies.push(prepared(alloc)?)?;
     replies.push(ran(alloc, &[], &[])?)?;
     replies.push(ran(alloc, &[1, 18446744073709551615], &["row 1", "row \"x\""])?)?;
@@ -250,16 +271,30 @@ fn replies_are_spelled(rt: HostRuntime) -> Result<(), Fail> {
             "7 loaded \"order id\" rows 0 columns 64\n",
         ),
         (
+            "an indexed column of a table with a name in quotes",
+            "7 indexed \"order id\" v\n",
+        ),
+        (
             "a statement with a plain name",
             "7 prepared q tables 5 predicates 3 parameters 4\n",
         ),
         (
             "an execution with no selectivities and no rows",
-            "7 ran \"my q\" execution 2\nplan rows(seq(t))\ncost 340282366920938463463374607431768211455\nat\nend 0\n",
+            "7 ran \"my q\" execution 2\n\
+             plan rows(seq(t))\n\
+             cost 340282366920938463463374607431768211455\n\
+             at\n\
+             cert {\"kind\":\"optimum\",\"least\":\"5\",\"table\":[{\"any\":\"5\",\"set\":1,\"sorted\":null}]}\n\
+             end 0\n",
         ),
         (
             "an execution with two selectivities and two rows",
-            "7 ran \"my q\" execution 2\nplan rows(seq(t))\ncost 340282366920938463463374607431768211455\nat 1 18446744073709551615\nrow 1\nrow \"x\"\nend 2\n",
+            "7 ran \"my q\" execution 2\n\
+             plan rows(seq(t))\n\
+             cost 340282366920938463463374607431768211455\n\
+             at 1 18446744073709551615\n\
+             cert {\"kind\":\"optimum\",\"least\":\"5\",\"table\":[{\"any\":\"5\",\"set\":1,\"sorted\":null}]}\n\
+             row 1\nrow \"x\"\nend 2\n",
         ),
         ("a refusal that shows nothing", "7 refused 1 syntax\n"),
         (

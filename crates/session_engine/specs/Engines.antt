@@ -1,7 +1,8 @@
 -- What an engine is: a session, and counts.
-use Rattle.std.specs.Prelude.{ℕ, ◌+◌, ◌*◌, ◌^◌, ◌≤◌, ◌<◌, Bool, true, false}
+use Rattle.std.specs.Prelude.{ℕ, ◌≡◌, ◌⊎◌, ◌+◌, ◌*◌, ◌^◌, ◌≤◌, ◌<◌, Bool, true, false}
+use Rattle.row_values.specs.declared.refusals.TheConstants.{TOO_MANY_ROWS}
 use Rattle.script_report.specs.declared.replies.Reply.{Reply}
-use Rattle.script_report.specs.declared.replies.Reply.TheVariants.{Loaded, Prepared, Ran, Refused, Spent}
+use Rattle.script_report.specs.declared.replies.Reply.TheVariants.{Loaded, Indexed, Prepared, Ran, Refused, Spent}
 use Rattle.session_model.specs.State.{State}
 
 -- the session's state, the steps so far, the calls of a planner, and whether memory was short
@@ -12,8 +13,9 @@ pub record EngineState : Type 0 where
   pub spent : Bool
 
 -- no count passes 4,096 times the steps, which are few enough for all counts to fit
-pub record IsCounted (state : State) (steps : ℕ) : Type 0 where
+pub record IsCounted (state : State) (asked steps : ℕ) : Type 0 where
   pub executions : state.executions ≤ 4096 * steps
+  pub optimised : asked ≤ 4096 * steps
   pub versions : state.catalog.versions ≤ 4096 * steps
   pub few_steps : steps ≤ 2 ^ 50
 
@@ -27,10 +29,25 @@ pub record CountsOn (old new : State) : Type 0 where
   pub executions : new.executions ≤ old.executions + 1
   pub versions : new.catalog.versions ≤ old.catalog.versions + 1
 
+-- a planner is asked once at most
+abbrev pub MayAsk : ℕ → ℕ → Type 0
+MayAsk old new = (new ≡ old) ⊎ (new ≡ old + 1)
+
 -- memory was short
 abbrev pub is_spent : Reply → Bool
 is_spent Spent = true
 is_spent (Loaded table rows columns) = false
+is_spent (Indexed table column) = false
 is_spent (Prepared name tables predicates parameters) = false
 is_spent (Ran execution rows) = false
 is_spent (Refused refusal) = false
+
+-- how often a planner was asked for the answer to a line: once for an execution, not at all for another reply; once at
+-- most where there were too many rows or memory was short
+abbrev pub IsAsked : ℕ → Reply → ℕ → Type 0
+IsAsked old (Ran execution rows) new = new ≡ old + 1
+IsAsked old (Refused why) new = (new ≡ old) ⊎ ((why.code ≡ TOO_MANY_ROWS) × (new ≡ old + 1))
+IsAsked old Spent new = MayAsk old new
+IsAsked old (Loaded table rows columns) new = new ≡ old
+IsAsked old (Indexed table column) new = new ≡ old
+IsAsked old (Prepared name tables predicates parameters) new = new ≡ old

@@ -1,44 +1,55 @@
-//! The engine: a session's state, and the counts that bound it.
+//! The engine: a session's state, the planner that it asks, and the counts that bound it.
 ghost use Rattle.std.specs.Prelude.{◌≡◌, ◌≢◌, ◌+◌, ◌<◌, ◌^◌, option_map, true, false, ℕ, List, Option};
+ghost use Rattle.plan_trees.specs.Statistics.{AreWeights};
 ghost use Rattle.script_report.specs.Commands.{Bad, Says};
 ghost use Rattle.session_model.specs.State.{initial_state};
 ghost use Rattle.session_model.specs.Step.{Step};
-ghost use Rattle.session_engine.specs.Engines.{is_spent};
+ghost use Rattle.session_engine.specs.Engines.{IsAsked, is_spent};
 
 use crate::session::{Session, refused};
+use plan_costs::Planner;
 use row_values::SYNTAX;
 use script_report::{Command, Reply};
 use session_model::Settings;
 use std::alloc::Global;
 use std::marker::Model;
 
-/// A session, how many steps it made, and whether memory was short at one of them.
+/// A session, the planner that finds its plans, how many steps it made, and whether memory was short at one of them.
 #[derive(Drop)]
-pub struct Engine {
+pub struct Engine<P: Planner> {
     alloc: Global,
     session: Session,
+    planner: P,
     steps: u64,
     spent: bool,
 }
 
-impl Model for Engine {
+impl<P: Planner> Model for Engine<P> {
     ghost use Rattle.session_engine.specs.Engines.{EngineState, IsCounted};
 
     ghost Value = { EngineState };
 
-    ghost view = { λ e. record { state = e.session; steps = e.steps; optimised = 0; spent = e.spent } };
+    ghost view = { λ e. record {
+      state = e.session;
+      steps = e.steps;
+      optimised = P.asked e.planner;
+      spent = e.spent;
+    } };
 
-    ghost invariant = { λ e. IsCounted e.session e.steps };
+    ghost invariant = { λ e. IsCounted e.session (P.asked e.planner) e.steps };
 }
 
-impl Engine {
-    /// The first state of a session. It takes no memory.
-    pub fn new(alloc: Global, settings: Settings) -> Engine
+impl<P: Planner> Engine<P> {
+    /// The first state of a session, with a planner that was never asked. It takes no memory.
+    pub fn new(alloc: Global, settings: Settings, planner: P) -> Engine<P>
+        requires weights { AreWeights settings.weights }
+        requires planner { P.asked planner ≡ 0 }
         ensures { result ≡ record { state = initial_state settings; steps = 0; optimised = 0; spent = false } }
     {
         Engine {
             alloc,
             session: Session::new(alloc, settings),
+            planner,
             steps: 0,
             spent: false,
         }
@@ -51,13 +62,11 @@ impl Engine {
         self.steps
     }
 
-    /// How often a planner was asked for a plan: never, so far.
+    /// How often the planner was asked for a plan.
     pub fn optimised(&self) -> u64
         ensures { result ≡ self.now.optimised }
     {
-        // A proof knows what an engine stands for only where a field is read.
-        let _ = &self.session;
-        0
+        self.planner.calls()
     }
 
     /// The answer to a line that is none of the language. It changes nothing and takes no memory.
@@ -78,13 +87,13 @@ impl Engine {
         ensures spent { self.new.spent ≡ is_spent result }
         ensures lasting { self.old.spent ≡ true → result ≡ Reply.Spent }
         ensures counted { self.new.steps ≡ self.old.steps + 1 }
-        ensures optimised { self.new.optimised ≡ self.old.optimised }
+        ensures optimised { IsAsked self.old.optimised result self.new.optimised }
     {
         self.steps += 1;
         if self.spent {
             return Reply::Spent;
         }
-        match self.session.dispatch(c, bytes) {
+        match self.session.dispatch(&mut self.planner, c, bytes) {
             Err(_) => {
                 self.spent = true;
                 Reply::Spent

@@ -1,97 +1,48 @@
-//! Executing a statement: its plan, what that costs, and the rows that it means.
+//! Executing an instance: a plan of least cost is asked for, and gives the rows that the statement means.
 //!
-//! So far a statement of one place without groups and order is executed, by a sequential scan. Its
-//! rows are counted before the first row line is made.
-ghost use Rattle.std.specs.Prelude.{◌≡◌, [], IfOk, map, true};
+//! Rows are shaped before the first row line is made, so too many are known before anything is written.
+ghost use Rattle.std.specs.Prelude.{◌≡◌, ◌+◌, ◌<◌, ◌^◌, IfOk, map};
 ghost use Rattle.csv_tables.specs.StatementTables.{AreTablesOf, rows_in, tables_in};
-ghost use Rattle.plan_trees.specs.Trees.{top_tree};
-ghost use Rattle.statement_meaning.specs.Combinations.{kept_combinations, rows_at};
-ghost use Rattle.row_values.specs.Sorting.{in_order};
-ghost use Rattle.statement_meaning.specs.Meaning.{is_lower};
-ghost use Rattle.statement_meaning.specs.Spelling.{row_line};
+ghost use Rattle.table_index.specs.StatementIndexes.{AreIndexesOf, indexes_in, masks_of};
+ghost use Rattle.plan_trees.specs.Statistics.{IsSoundStats, IsSoundVector};
+ghost use Rattle.plan_costs.specs.BestPlans.{IsBest};
+ghost use Rattle.plan_costs.specs.declared.planner.Best.{Best as BestPlan};
 ghost use Rattle.result_shape.specs.Rows.{rows_seen};
-ghost use Rattle.session_model.specs.Executions as executions;
-ghost use Rattle.session_engine.specs.Executed.{Executed};
+ghost use Rattle.session_model.specs.Executions.{IsExecution};
+ghost use Rattle.statement_meaning.specs.Spelling.{row_line};
+ghost use Rattle.statement_statistics.specs.Statistics.{first_wide};
+ghost use Rattle.session_engine.specs.Executed.{Executed, IsReady};
 
-use csv_tables::Table;
-use plan_operators::{Combos, run_plan};
-use plan_trees::{Access, COST_SCALE, Plan, Top, print_plan};
-use result_shape::{Rows, RowsFault, finish, row_text};
-use row_values::{OutOfMemory, Query, Value, Words, selectivity_count};
+use crate::shaping::rows_by;
+use bound_certificate::Cert;
+use plan_costs::{Best, Planner};
+use plan_operators::Source;
+use plan_trees::{Vector, print_plan};
+use result_shape::{Rows, RowsFault, row_text};
+use row_values::{OutOfMemory, Query, Words};
 use script_report::{Execution, Lines};
-use selectivity_counts::vector;
-use session_model::SELECTIVITIES_BUILT;
+use session_store::Instance;
 use std::alloc::Global;
-use std::rc::Rc;
-use table_index::indexes_over;
 
-/// Whether the statement is of the form that is executed so far.
-pub fn is_built(q: &Query) -> bool
-    ensures { result ≡ executions.is_built q.now }
-{
-    q.places().len() == 1
-        && q.groups().is_empty()
-        && q.order().is_empty()
-        && selectivity_count(q.preds()) <= SELECTIVITIES_BUILT
-}
-
-/// The one plan so far: a sequential scan of the one place.
-fn scan_plan(alloc: Global) -> Result<Top, OutOfMemory>
-    ensures { IfOk result (λ top. top_tree top ≡ executions.scan_plan) }
-{
-    Ok(Top::Rows(Rc::new(alloc, Plan::Base(Access::Seq(0)))?))
-}
-
-/// The cost of the scan of the one table.
-fn scan_cost(tables: &[Rc<Table>]) -> u128
-    ensures { result ≡ executions.scan_cost (rows_at (rows_in (tables_in tables.now)) 0) }
-{
-    let rows = match tables.first() {
-        Some(table) => table.len(),
-        None => 0,
-    };
-    COST_SCALE * (rows.max(1) as u128)
-}
-
-/// The kept combinations of the one place.
-fn combinations(
-    alloc: Global,
-    q: &Query,
-    tables: &[Rc<Table>],
-    args: &[Value],
-    plan: &Top,
-) -> Result<Combos, OutOfMemory>
-    requires built { executions.is_built q.now ≡ true }
-    requires tables { AreTablesOf q.now (tables_in tables.now) }
-    requires plan { top_tree plan.now ≡ executions.scan_plan }
-    ensures { IfOk result (λ combos. in_order is_lower combos
-        ≡ kept_combinations q.now (rows_in (tables_in tables.now)) args.now) }
-{
-    let indexes = indexes_over(alloc, tables, &[])?;
-    run_plan(alloc, q, tables, indexes.as_slice(), args, plan)
-}
-
-/// What is shown of the execution of this number.
+/// What is shown of the execution of this number, by the best plan at this vector.
 fn describe(
     alloc: Global,
     number: u64,
     name: &Words,
     q: &Query,
-    tables: &[Rc<Table>],
-    args: &[Value],
-    plan: &Top,
+    instance: &Instance,
+    best: Best,
 ) -> Result<Execution, OutOfMemory>
-    requires tables { AreTablesOf q.now (tables_in tables.now) }
-    requires plan { top_tree plan.now ≡ executions.scan_plan }
-    ensures { IfOk result (λ execution. execution
-        ≡ executions.scan_execution number name.now q.now (rows_in (tables_in tables.now)) args.now) }
+    requires { IsBest q.now instance.now.stats instance.now.at best }
+    ensures { IfOk result (IsExecution number name.now q.now instance.now.stats instance.now.at) }
 {
     Ok(Execution {
         name: name.copy(alloc)?,
         number,
-        spelled: print_plan(alloc, q, plan)?,
-        cost: scan_cost(tables),
-        at: vector(q, tables, &[], args),
+        spelled: print_plan(alloc, q, &best.plan)?,
+        cost: best.cost,
+        at: instance.at,
+        cert: Cert::Optimum(best.potentials),
     })
 }
 
@@ -106,27 +57,28 @@ fn row_lines(alloc: Global, q: &Query, rows: &Rows) -> Result<Lines, OutOfMemory
     Ok(lines)
 }
 
-/// What an execution is and its row lines; nothing where it has too many rows.
-pub fn execute(
+/// What an execution is and its row lines; nothing where it has too many rows. The planner is asked once.
+pub fn execute<P: Planner>(
     alloc: Global,
+    planner: &mut P,
     number: u64,
     name: &Words,
-    q: &Query,
-    tables: &[Rc<Table>],
-    args: &[Value],
+    source: &Source<'_>,
+    instance: &Instance,
 ) -> Result<Option<(Execution, Lines)>, OutOfMemory>
-    requires built { executions.is_built q.now ≡ true }
-    requires tables { AreTablesOf q.now (tables_in tables.now) }
-    ensures { IfOk result (Executed number name.now q.now (rows_in (tables_in tables.now)) args.now) }
+    requires ready { IsReady source.now instance.now }
+    requires room { P.asked planner.old < 2 ^ 63 }
+    ensures asked { P.asked planner.new ≡ P.asked planner.old + 1 }
+    ensures executed { IfOk result (Executed number name.now source.now.q.now
+        (rows_in (tables_in source.now.tables.now)) source.now.args.now instance.now.stats instance.now.at) }
 {
-    let plan = scan_plan(alloc)?;
-    let combos = combinations(alloc, q, tables, args, &plan)?;
-    let rows = match finish(alloc, q, tables, combos) {
+    let best = planner.optimise(alloc, source.q, &instance.stats, instance.at.as_slice())?;
+    let rows = match rows_by(alloc, source, &best.plan) {
         Ok(rows) => rows,
         Err(RowsFault::TooManyRows) => return Ok(None),
         Err(RowsFault::Memory) => return Err(OutOfMemory),
     };
-    let execution = describe(alloc, number, name, q, tables, args, &plan)?;
-    let lines = row_lines(alloc, q, &rows)?;
+    let execution = describe(alloc, number, name, source.q, instance, best)?;
+    let lines = row_lines(alloc, source.q, &rows)?;
     Ok(Some((execution, lines)))
 }

@@ -8,6 +8,7 @@
 mod engine;
 mod execution;
 mod session;
+mod shaping;
 
 pub use engine::Engine;
 pub use session_model::Settings;

@@ -1,12 +1,15 @@
 //! A session's state, and the step of each command.
-ghost use Rattle.std.specs.Prelude.{◌≡◌, [], IfOk, OnErr, option_map, length};
+ghost use Rattle.std.specs.Prelude.{◌≡◌, ◌<◌, ◌^◌, [], IfOk, OnErr, option_map, length};
 ghost use Rattle.row_values.specs.Statements.{kinds_of};
 ghost use Rattle.row_values.specs.Refusals.{refusal};
 ghost use Rattle.session_model.specs.State.{initial_state};
-ghost use Rattle.session_model.specs.Step.{CommandStep, LoadStep, PrepareStep, RunStep};
-ghost use Rattle.session_engine.specs.Engines.{CountsOn, HasRoom};
+ghost use Rattle.plan_trees.specs.Statistics.{AreWeights};
+ghost use Rattle.session_model.specs.Step.{CommandStep, IndexStep, LoadStep, PrepareStep, RunStep};
+ghost use Rattle.session_engine.specs.Engines.{CountsOn, HasRoom, IsAsked, MayAsk};
 
-use crate::execution::{execute, is_built};
+use crate::execution::execute;
+use plan_costs::Planner;
+use plan_operators::Source;
 use row_values::{
     MISSING_FILE, NOT_BUILT, OutOfMemory, Query, Refusal, TOO_MANY_ROWS, Value, Words,
 };
@@ -58,11 +61,12 @@ fn prepared(name: Words, q: &Query) -> Reply
 impl Session {
     /// The first state. It takes no memory.
     pub fn new(alloc: Global, settings: Settings) -> Session
+        requires { AreWeights settings.weights }
         ensures { result ≡ initial_state settings }
     {
         Session {
             alloc,
-            store: Store::new(alloc),
+            store: Store::new(alloc, settings.weights),
             executions: 0,
             settings,
         }
@@ -91,6 +95,23 @@ impl Session {
         }
     }
 
+    /// `index T COL`.
+    fn index(&mut self, table: &Words, column: &Words) -> Result<Reply, OutOfMemory>
+        ensures ok { IfOk result (λ reply. IndexStep self.old table.now column.now reply self.new) }
+        ensures err { OnErr result (self.new ≡ self.old) }
+        ensures counts { CountsOn self.old self.new }
+    {
+        let indexed = Reply::Indexed {
+            table: table.copy(self.alloc)?,
+            column: column.copy(self.alloc)?,
+        };
+        match self.store.add_index(table, column) {
+            Ok(()) => Ok(indexed),
+            Err(StoreFault::Refused(why)) => Ok(Reply::Refused(why)),
+            Err(StoreFault::Memory) => Err(OutOfMemory),
+        }
+    }
+
     /// `prepare NAME SELECT ..`.
     fn prepare(&mut self, name: &Words, select: &Select) -> Result<Reply, OutOfMemory>
         ensures ok { IfOk result (λ reply. PrepareStep self.old name.now select.now reply self.new) }
@@ -106,47 +127,64 @@ impl Session {
     }
 
     /// `run NAME ARG*`.
-    fn run(&mut self, name: &Words, args: &[Value]) -> Result<Reply, OutOfMemory>
-        requires { HasRoom self.old }
+    fn run<P: Planner>(
+        &mut self,
+        planner: &mut P,
+        name: &Words,
+        args: &[Value],
+    ) -> Result<Reply, OutOfMemory>
+        requires room { HasRoom self.old }
+        requires asks { P.asked planner.old < 2 ^ 63 }
         ensures ok { IfOk result (λ reply. RunStep self.old name.now args.now reply self.new) }
         ensures err { OnErr result (self.new ≡ self.old) }
         ensures counts { CountsOn self.old self.new }
+        ensures asked { IfOk result (λ reply. IsAsked (P.asked planner.old) reply (P.asked planner.new)) }
+        ensures may_ask { MayAsk (P.asked planner.old) (P.asked planner.new) }
     {
         let instance = match self.store.instance(name, args) {
             Ok(instance) => instance,
             Err(StoreFault::Refused(why)) => return Ok(Reply::Refused(why)),
             Err(StoreFault::Memory) => return Err(OutOfMemory),
         };
-        let q = self.store.query(instance.statement);
-        if !is_built(q) {
-            return Ok(refused(self.alloc, NOT_BUILT));
-        }
         let tables = self.store.tables_of(instance.statement)?;
-        match execute(self.alloc, self.executions + 1, name, q, &tables, args)? {
+        let indexes = self.store.indexes_of(instance.statement)?;
+        let source = Source {
+            q: self.store.query(instance.statement),
+            tables: &tables,
+            indexes: &indexes,
+            args,
+        };
+        let number = self.executions + 1;
+        match execute(self.alloc, planner, number, name, &source, &instance)? {
             None => Ok(refused(self.alloc, TOO_MANY_ROWS)),
             Some((execution, rows)) => {
-                self.executions += 1;
+                self.executions = number;
                 Ok(Reply::Ran { execution, rows })
             }
         }
     }
 
     /// The answer to a command, by its kind.
-    pub fn dispatch(&mut self, command: &Command, file: Option<&[u8]>) -> Result<Reply, OutOfMemory>
-        requires { HasRoom self.old }
+    pub fn dispatch<P: Planner>(
+        &mut self,
+        planner: &mut P,
+        command: &Command,
+        file: Option<&[u8]>,
+    ) -> Result<Reply, OutOfMemory>
+        requires room { HasRoom self.old }
+        requires asks { P.asked planner.old < 2 ^ 63 }
         ensures ok { IfOk result (λ reply. CommandStep self.old command.now
             (option_map (λ bytes. bytes.now) file.entry) reply self.new) }
         ensures err { OnErr result (self.new ≡ self.old) }
         ensures counts { CountsOn self.old self.new }
+        ensures asked { IfOk result (λ reply. IsAsked (P.asked planner.old) reply (P.asked planner.new)) }
+        ensures may_ask { MayAsk (P.asked planner.old) (P.asked planner.new) }
     {
         match command {
             Command::Load { table, file: _ } => self.load(table, file),
+            Command::Index { table, column } => self.index(table, column),
             Command::Prepare { name, select } => self.prepare(name, select),
-            Command::Run { name, args } => self.run(name, args.as_slice()),
-            Command::Index {
-                table: _,
-                column: _,
-            } => Ok(refused(self.alloc, NOT_BUILT)),
+            Command::Run { name, args } => self.run(planner, name, args.as_slice()),
             Command::Cursor {
                 cursor: _,
                 name: _,

@@ -1,5 +1,5 @@
 -- What every session has: the first state has it, and each step keeps it.
-use Rattle.std.proofs.Common.{ℕ, ◌≡◌, ◌<◌, List, [], Option, Some, None, Result, Ok, Err, MatchOption, MatchResult, All, refl, sym, subst, arith}
+use Rattle.std.proofs.Common.{ℕ, ◌≡◌, ◌<◌, List, [], length, Option, Some, None, Result, Ok, Err, MatchOption, MatchResult, All, refl, sym, subst, arith}
 use Rattle.std.proofs.lemmas.List.Elements.{All-nil}
 use Rattle.outside_model.specs.Files.{Files}
 use Rattle.row_values.specs.Statements.{IsSoundQuery, Statement}
@@ -7,28 +7,36 @@ use Rattle.row_values.specs.declared.refusals.Refusal.{Refusal}
 use Rattle.row_values.specs.declared.values.Value.{Value}
 use Rattle.csv_tables.specs.Tables.{IsTable}
 use Rattle.sql_parser.specs.Statement.{IsSound, Parts}
+use Rattle.statement_meaning.specs.Meaning.{meaning_of}
+use Rattle.plan_trees.specs.Statistics.{AreWeights}
+use Rattle.plan_trees.specs.declared.statistics.Weights.{Weights}
 use Rattle.script_report.proofs.ReadStatements.{statements_sound}
 use Rattle.script_report.specs.Commands.{Reading, Silent, Says, Bad, reading_of}
 use Rattle.script_report.specs.declared.commands.Command.{Command}
 use Rattle.script_report.specs.declared.commands.Command.TheVariants.{Load, Index, Prepare, Run, Cursor, Fetch, Close, Evict, Show}
 use Rattle.script_report.specs.declared.replies.Reply.{Reply}
-use Rattle.catalog_model.specs.Catalogs.{Catalog, TableState, StatementState, empty_catalog, with_version, with_statement}
+use Rattle.catalog_model.specs.Catalogs.{Catalog, TableState, StatementState, empty_catalog, with_version, with_index}
+use Rattle.catalog_model.specs.Catalogs.{with_statement}
+use Rattle.catalog_model.specs.Indexing.{indexing_of}
 use Rattle.catalog_model.specs.Instances.{instance_of}
 use Rattle.catalog_model.specs.Loading.{loading_of}
 use Rattle.catalog_model.specs.Preparing.{preparing_of}
 use Rattle.catalog_model.specs.Sound.{IsCatalog, IsLoaded}
+use Rattle.catalog_model.proofs.Indexings.{indexed}
 use Rattle.catalog_model.proofs.Loads.{loaded}
 use Rattle.catalog_model.proofs.Preparations.{prepared}
-use Rattle.session_model.specs.Executions.{execution_refusal}
+use Rattle.session_model.specs.Executions.{rows_refusal}
 use Rattle.session_model.specs.Run.{Line, IsChain, StepOver}
 use Rattle.session_model.specs.Session.{IsSession}
 use Rattle.session_model.specs.State.{State, initial_state, held_versions}
-use Rattle.session_model.specs.Step.{Step, CommandStep, LoadStep, PrepareStep, RunStep, InstanceStep, Refuses, Loads, Prepares, Executes, file_of, present_tables}
+use Rattle.session_model.specs.Step.{Step, CommandStep, LoadStep, PrepareStep, RunStep, InstanceStep, Refuses}
+use Rattle.session_model.specs.Step.{Loads, Prepares, Executes, file_of, present_tables, IndexStep, Indexes}
 use Rattle.session_model.specs.declared.settings.Settings.{Settings}
 use Rattle.session_model.proofs.Chains.{keeps}
 
-empty : IsCatalog [] empty_catalog
-empty = record {
+empty : (weights : Weights) → AreWeights weights → IsCatalog [] (empty_catalog weights)
+empty weights are = record {
+  weights = are;
   table_names = refl;
   statement_names = refl;
   version_numbers = refl;
@@ -42,8 +50,9 @@ empty = record {
   few_bytes = omega arith;
 }
 
-pub first : (settings : Settings) → IsSession (initial_state settings)
-first settings = record { catalog = empty; cursor_names = refl; few_cursors = omega arith }
+pub first : (settings : Settings) → AreWeights settings.weights → IsSession (initial_state settings)
+first settings are =
+    record { catalog = empty settings.weights are; cursor_names = refl; few_cursors = omega arith }
 
 -- a session with another catalog that is sound
 with_catalog : (old new : State) (catalog : Catalog) → IsSession old → IsCatalog (held_versions old.cursors) catalog
@@ -76,6 +85,15 @@ load_keeps old new name (Some bytes) reply session step =
     (loaded (held_versions old.cursors) old.catalog name bytes version session.catalog e) l.keeps)
     (λ why r. refused why old new reply session r)
 
+index_keeps : (old new : State) (table column : List ℕ) (reply : Reply) → IsSession old
+    → IndexStep old table column reply new → IsSession new
+index_keeps old new table column reply session step =
+    by_result (IsSession new) (indexing_of old.catalog table column)
+    (λ number. Indexes old table column number reply new) (λ why. Refuses why old reply new) step
+    (λ number e i. with_catalog old new (with_index old.catalog table number) session
+    (indexed (held_versions old.cursors) old.catalog table number session.catalog) i.keeps)
+    (λ why r. refused why old new reply session r)
+
 prepare_keeps : (old new : State) (name : List ℕ) (select : Parts) (reply : Reply) → IsSound select → IsSession old
     → PrepareStep old name select reply new → IsSession new
 prepare_keeps old new name select reply parts session step =
@@ -98,7 +116,7 @@ run_keeps old new name args reply session step =
     (λ instance. InstanceStep old name instance.statement instance.args reply new)
     (λ why. Refuses why old reply new) step
     (λ instance e s. by_option (IsSession new)
-    (execution_refusal instance.statement (present_tables old instance.statement) instance.args)
+    (rows_refusal (length (meaning_of instance.statement (present_tables old instance.statement) instance.args)))
     (Executes old name instance.statement instance.args reply new)
     (λ why. Refuses why old reply new) s (executed old new name instance.statement instance.args reply session)
     (λ why r. refused why old new reply session r))
@@ -111,7 +129,8 @@ PreparesSound reading = (name : List ℕ) (select : Parts) → reading ≡ Says 
 command_keeps : (old new : State) (command : Command) (file : Option (List ℕ)) (reply : Reply)
     → PreparesSound (Says command) → IsSession old → CommandStep old command file reply new → IsSession new
 command_keeps old new (Load table name) file reply sound session step = load_keeps old new table file reply session step
-command_keeps old new (Index table column) file reply sound session step = refused _ old new reply session step
+command_keeps old new (Index table column) file reply sound session step =
+    index_keeps old new table column reply session step
 command_keeps old new (Prepare name select) file reply sound session step =
     prepare_keeps old new name select reply (sound name select refl) session step
 command_keeps old new (Run name args) file reply sound session step = run_keeps old new name args reply session step

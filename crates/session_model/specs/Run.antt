@@ -53,6 +53,7 @@ report_text (line ∷ lines) (reply ∷ replies) = reply_text line.number reply 
 abbrev pub is_refusal : Reply → Bool
 is_refusal (reply.Refused refusal) = true
 is_refusal (reply.Loaded table rows columns) = false
+is_refusal (reply.Indexed table column) = false
 is_refusal (reply.Prepared name tables predicates parameters) = false
 is_refusal (reply.Ran execution rows) = false
 is_refusal reply.Spent = false

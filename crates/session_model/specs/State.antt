@@ -17,7 +17,8 @@ pub record State : Type 0 where
   pub settings : Settings
 
 abbrev pub initial_state : Settings → State
-initial_state settings = record { catalog = empty_catalog; cursors = []; executions = 0; settings = settings }
+initial_state settings =
+    record { catalog = empty_catalog settings.weights; cursors = []; executions = 0; settings = settings }
 
 -- the versions that cursors hold
 abbrev pub held_versions : List CursorState → List Version

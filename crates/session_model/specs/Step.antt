@@ -14,11 +14,14 @@ use Rattle.script_report.specs.declared.commands.Command.TheVariants.{Load, Inde
 use Rattle.script_report.specs.declared.replies.Execution.{Execution}
 use Rattle.script_report.specs.declared.replies.Reply.{Reply}
 use Rattle.script_report.specs.declared.replies.Reply.TheVariants as reply
-use Rattle.catalog_model.specs.Catalogs.{Version, with_version, with_statement, tables_of}
+use Rattle.plan_trees.specs.Statistics.{Statistics}
+use Rattle.statement_meaning.specs.Vectors.{vector_of}
+use Rattle.catalog_model.specs.Catalogs.{Version, with_version, with_index, with_statement, stats_now, tables_of}
+use Rattle.catalog_model.specs.Indexing.{indexing_of}
 use Rattle.catalog_model.specs.Instances.{instance_of}
 use Rattle.catalog_model.specs.Loading.{loading_of}
 use Rattle.catalog_model.specs.Preparing.{preparing_of}
-use Rattle.session_model.specs.Executions.{IsExecution, execution_refusal}
+use Rattle.session_model.specs.Executions.{IsExecution, rows_refusal}
 use Rattle.session_model.specs.State.{State, held_versions}
 
 -- the line is turned down: the reply says why, and nothing changes
@@ -39,6 +42,17 @@ LoadStep old name file answer new = MatchOption file
     (λ version. Loads old name version answer new)
     (λ why. Refuses why old answer new))
 
+-- the column is indexed
+pub record Indexes (old : State) (table column : List ℕ) (number : ℕ) (answer : Reply) (new : State) : Type 0 where
+  pub says : answer ≡ reply.Indexed table column
+  pub keeps : new ≡ record old { catalog = with_index old.catalog table number }
+
+-- `index T COL`
+abbrev pub IndexStep : State → List ℕ → List ℕ → Reply → State → Type 0
+IndexStep old table column answer new = MatchResult (indexing_of old.catalog table column)
+    (λ number. Indexes old table column number answer new)
+    (λ why. Refuses why old answer new)
+
 -- the statement is kept behind the others
 pub record Prepares (old : State) (name : List ℕ) (q : Statement) (answer : Reply) (new : State) : Type 0 where
   pub says : answer ≡ reply.Prepared name (length q.places) (length q.preds) (length (kinds_of q.places q.preds))
@@ -54,17 +68,25 @@ PrepareStep old name select answer new = MatchResult (preparing_of old.catalog n
 abbrev pub present_tables : State → Statement → List (List (List Value))
 present_tables state q = tables_of state.catalog.tables q
 
+-- the numbers that its plans are costed by, as its tables are loaded and indexed now
+abbrev pub present_stats : State → Statement → Statistics
+present_stats state q = stats_now state.catalog.tables state.catalog.weights q
+
+-- its selectivity vector for these arguments
+abbrev pub present_vector : State → Statement → List Value → List ℕ
+present_vector state q args = vector_of q (present_tables state q) args
+
 -- the statement is executed: the reply has the execution, and a line for each row that the statement means
 pub record Executes (old : State) (name : List ℕ) (q : Statement) (args : List Value) (answer : Reply)
     (new : State) : Type 0 where
   pub execution : Execution
-  pub shows : IsExecution (old.executions + 1) name q (present_tables old q) args execution
+  pub shows : IsExecution (old.executions + 1) name q (present_stats old q) (present_vector old q args) execution
   pub says : answer ≡ reply.Ran execution (map row_line (meaning_of q (present_tables old q) args))
   pub counts : new ≡ record old { executions = old.executions + 1 }
 
--- an instance, which is executed unless it is of no form that is built or has too many rows
+-- an instance, which is executed unless it has too many rows
 abbrev pub InstanceStep : State → List ℕ → Statement → List Value → Reply → State → Type 0
-InstanceStep old name q args answer new = MatchOption (execution_refusal q (present_tables old q) args)
+InstanceStep old name q args answer new = MatchOption (rows_refusal (length (meaning_of q (present_tables old q) args)))
     (Executes old name q args answer new)
     (λ why. Refuses why old answer new)
 
@@ -81,7 +103,7 @@ NotBuiltStep old answer new = Refuses refused.not_built old answer new
 -- what a command may answer, with the file that it asks for
 abbrev pub CommandStep : State → Command → Option (List ℕ) → Reply → State → Type 0
 CommandStep old (Load table name) file answer new = LoadStep old table file answer new
-CommandStep old (Index table column) file answer new = NotBuiltStep old answer new
+CommandStep old (Index table column) file answer new = IndexStep old table column answer new
 CommandStep old (Prepare name select) file answer new = PrepareStep old name select answer new
 CommandStep old (Run name args) file answer new = RunStep old name args answer new
 CommandStep old (Cursor cursor name args) file answer new = NotBuiltStep old answer new

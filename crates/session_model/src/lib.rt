@@ -10,9 +10,6 @@
 pub const CURSOR_LIMIT: usize = 16;
 /// The most rows of a result.
 pub const RESULT_LIMIT: usize = 1000000;
-/// The most parameterised predicates of a statement that is executed so far: with tables of at most 2^20 rows no such
-/// statement of one place passes the cost model's range.
-pub const SELECTIVITIES_BUILT: usize = 3;
 
 pub mod laws;
 mod settings;

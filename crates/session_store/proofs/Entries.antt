@@ -1,5 +1,6 @@
 -- The entries of the two maps, as lists of tables and of statements.
-use Rattle.std.proofs.Common.{is_some, ◌+◌, take, slice_index_or, ℕ, ◌≡◌, ◌∙◌, List, [], ◌∷◌, ◌++◌, length, map, Option, Some, None, ap, suc, zero, sym, refl, cond, Bool, true, false, All, ◌<◌, subst}
+use Rattle.std.proofs.Common.{is_some, ◌+◌, take, slice_index_or, ℕ, ◌≡◌, ◌∙◌, List, [], ◌∷◌, ◌++◌, length, map, Option}
+use Rattle.std.proofs.Common.{Some, None, ap, suc, zero, sym, refl, cond, Bool, true, false, All, ◌<◌, subst}
 use Rattle.std.specs.List.{slice_get}
 use Rattle.std.specs.Option.{option_map}
 use Rattle.std.proofs.lemmas.List.{take_more, map-append}
@@ -10,12 +11,11 @@ use Rattle.indexmap.specs.IndexMap.{insert_entry}
 use Rattle.row_values.specs.Statements.{Statement}
 use Rattle.row_values.specs.declared.statement.Place.{Place}
 use Rattle.csv_tables.specs.Tables.{TableValue}
-use Rattle.catalog_model.specs.Catalogs.{StatementState, find_table, find_statement}
+use Rattle.catalog_model.specs.Catalogs.{StatementState, find_table, find_statement, flags_named}
 use Rattle.catalog_model.proofs.Names.{new_statement}
-use Rattle.session_store.specs.Kept.{tables_in, statements_in}
-use Rattle.session_store.specs.declared.store.Held.{Held}
+use Rattle.session_store.specs.Kept.{HeldTable, flags_of, tables_in, statements_in}
 
-pub length-tables_in : (es : List (List ℕ × Held)) → length (tables_in es) ≡ length es
+pub length-tables_in : (es : List (List ℕ × HeldTable)) → length (tables_in es) ≡ length es
 length-tables_in [] = refl
 length-tables_in (e ∷ es) = ap suc (length-tables_in es)
 
@@ -23,18 +23,33 @@ pub length-statements_in : (es : List (List ℕ × Statement)) → length (state
 length-statements_in [] = refl
 length-statements_in (e ∷ es) = ap suc (length-statements_in es)
 
-map_cond : (test : Bool) (h : Held) (rest : Option Held) (rest' : Option TableValue)
-    → option_map (λ x. x.table.value) rest ≡ rest'
-    → option_map (λ x. x.table.value) (cond test (Some h) rest) ≡ cond test (Some h.table.value) rest'
+map_cond : (test : Bool) (h : HeldTable) (rest : Option HeldTable) (rest' : Option TableValue)
+    → option_map (λ x. x.version.content) rest ≡ rest'
+    → option_map (λ x. x.version.content) (cond test (Some h) rest) ≡ cond test (Some h.version.content) rest'
 map_cond true h rest rest' e = refl
 map_cond false h rest rest' e = e
 
-pub found_table : (es : List (List ℕ × Held)) (name : List ℕ)
-    → option_map (λ h. h.table.value) (lookup (λ k. bytes_eq name k) es) ≡ find_table (tables_in es) name
+pub found_table : (es : List (List ℕ × HeldTable)) (name : List ℕ)
+    → option_map (λ h. h.version.content) (lookup (λ k. bytes_eq name k) es) ≡ find_table (tables_in es) name
 found_table [] name = refl
 found_table (e ∷ es) name =
     map_cond (bytes_eq name e.0) e.1 (lookup (λ k. bytes_eq name k) es) (find_table (tables_in es) name)
     (found_table es name)
+
+flags_by : (test : Bool) (h held : HeldTable) (rest : Option HeldTable) (flags : List Bool)
+    → cond test (Some h) rest ≡ Some held → (rest ≡ Some held → flags ≡ flags_of held.indexes)
+    → cond test (flags_of h.indexes) flags ≡ flags_of held.indexes
+flags_by true h held rest flags e later =
+    let same : h ≡ held = cc in ap (λ (x : HeldTable). flags_of x.indexes) same
+flags_by false h held rest flags e later = later e
+
+-- the flags of what is found
+pub found_flags : (es : List (List ℕ × HeldTable)) (name : List ℕ) (held : HeldTable)
+    → lookup (λ k. bytes_eq name k) es ≡ Some held → flags_named (tables_in es) name ≡ flags_of held.indexes
+found_flags [] name held e = absurd cc
+found_flags (e ∷ es) name held found =
+    flags_by (bytes_eq name e.0) e.1 held (lookup (λ k. bytes_eq name k) es) (flags_named (tables_in es) name) found
+    (found_flags es name held)
 
 pub found_statement : (es : List (List ℕ × Statement)) (name : List ℕ)
     → lookup (λ k. bytes_eq name k) es ≡ find_statement (statements_in es) name
@@ -87,14 +102,13 @@ pub none_of : {T : Type 0} (o : Option T) → false ≡ is_some o → o ≡ None
 none_of None h = refl
 none_of (Some x) h = absurd cc
 
--- one more table, for one more place
-pub tables_more : {A : Type 0} (f : A → Option TableValue) (g : Place → Option TableValue) (items items' : List A)
-    (x : A) (places : List Place) (i : ℕ) (place : Place) → items' ≡ items ++ x ∷ [] → f x ≡ g place
-    → place ≡ slice_index_or places i place → i < length places →
-    map f items ≡ map g (take i places) → map f items' ≡ map g (take (i + 1) places)
-tables_more {A = A} f g items items' x places i place e same there lt so_far =
+-- one more, for one more place
+pub one_more : {A C : Type 0} (f : A → C) (g : Place → C) (items items' : List A) (x : A) (places : List Place) (i : ℕ)
+    (place : Place) → items' ≡ items ++ x ∷ [] → f x ≡ g place → place ≡ slice_index_or places i place
+    → i < length places → map f items ≡ map g (take i places) → map f items' ≡ map g (take (i + 1) places)
+one_more {A = A} {C = C} f g items items' x places i place e same there lt so_far =
     let more : take (i + 1) places ≡ take i places ++ place ∷ [] = take_more places i place lt
     ∙ ap (λ (p : Place). take i places ++ p ∷ []) (sym there) in
-    ap (map f) e ∙ (map-append f items (x ∷ []) ∙ (ap (λ (front : List (Option TableValue)). front ++ f x ∷ []) so_far
-    ∙ (ap (λ (y : Option TableValue). map g (take i places) ++ y ∷ []) same
+    ap (map f) e ∙ (map-append f items (x ∷ []) ∙ (ap (λ (front : List C). front ++ f x ∷ []) so_far
+    ∙ (ap (λ (y : C). map g (take i places) ++ y ∷ []) same
     ∙ (sym (map-append g (take i places) (place ∷ [])) ∙ sym (ap (map g) more)))))

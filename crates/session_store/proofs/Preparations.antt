@@ -1,23 +1,24 @@
 -- The ends of a preparation.
-use Rattle.std.proofs.Common.{ℕ, ◌≡◌, ◌≤◌, ◌<◌, ◌∙◌, ◌++◌, ◌∷◌, [], None, List, length, nat_lt, codes, is_some, Bool, true, false, Ok, Err, ap, sym, refl, arith}
+use Rattle.std.proofs.Common.{ℕ, ◌≡◌, ◌≤◌, ◌<◌, ◌∙◌, ◌++◌, ◌∷◌, [], None, List, length, nat_lt, codes, is_some, Bool}
+use Rattle.std.proofs.Common.{true, false, Ok, Err, ap, sym, refl, arith}
 use Rattle.std.specs.Map.{lookup}
 use Rattle.std.specs.Str.{bytes_eq}
 use Rattle.indexmap.specs.IndexMap.{insert_entry}
 use Rattle.std.proofs.lemmas.Bool.Decides.{nat_tests}
 use Rattle.row_values.specs.Names.{canonical_name}
 use Rattle.row_values.specs.Statements.{Statement}
+use Rattle.plan_trees.specs.declared.statistics.Weights.{Weights}
 use Rattle.sql_parser.specs.Statement.{Parts}
 use Rattle.name_binder.specs.Binding.{binding_of}
 use Rattle.catalog_model.specs.Catalogs.{Catalog, StatementState, find_statement, schemas_of, with_statement}
 use Rattle.row_values.specs.Refusals.{name_taken, store_limit}
 use Rattle.catalog_model.specs.Preparing.{preparing_of, bound}
 use Rattle.catalog_model.proofs.Names.{new_statement}
-use Rattle.session_store.specs.Kept.{catalog_in, statements_in, tables_in}
+use Rattle.session_store.specs.Kept.{HeldTable, catalog_in, statements_in, tables_in}
 use Rattle.session_store.specs.Outcomes.{Binds, Says}
 use Rattle.session_store.specs.declared.faults.StoreFault.{StoreFault}
 use Rattle.session_store.specs.declared.faults.StoreFault.TheVariants.{Refused, Memory}
 use Rattle.session_store.proofs.Entries.{found_statement, statement_last}
-use Rattle.session_store.specs.declared.store.Held.{Held}
 
 -- a name is known exactly where an entry has it
 pub known_name : (es : List (List ℕ × Statement)) (ss : List StatementState) (name : List ℕ) (known : Bool)
@@ -65,16 +66,16 @@ prepared catalog name select q h b room = free catalog name select h
     ∙ (ap (bound catalog.statements) b ∙ few catalog.statements q room)
 
 -- the catalog of the entries with a statement of a new name
-pub catalog_behind : (now : Catalog) (tables : List (List ℕ × Held)) (es after : List (List ℕ × Statement))
-    (versions : ℕ) (key name : List ℕ) (q : Statement) → catalog_in tables es versions ≡ now
+pub catalog_behind : (now : Catalog) (tables : List (List ℕ × HeldTable)) (es after : List (List ℕ × Statement))
+    (versions : ℕ) (weights : Weights) (key name : List ℕ) (q : Statement) → catalog_in tables es versions weights ≡ now
     → after ≡ insert_entry bytes_eq es key q → key ≡ name → find_statement now.statements name ≡ None
-    → catalog_in tables after versions ≡ with_statement now name q
-catalog_behind now tables es after versions key name q view made same free =
+    → catalog_in tables after versions weights ≡ with_statement now name q
+catalog_behind now tables es after versions weights key name q view made same free =
     let none : find_statement (statements_in es) name ≡ None =
     ap (λ (k : Catalog). find_statement k.statements name) view ∙ free in
     let more : statements_in after ≡ statements_in es ++ new_statement name q ∷ [] =
     ap statements_in (made ∙ ap (λ (key : List ℕ). insert_entry bytes_eq es key q) same)
     ∙ statement_last es name q none in
     ap (λ (ss : List StatementState). let k : Catalog =
-    record { tables = tables_in tables; statements = ss; versions = versions } in k) more
+    record { tables = tables_in tables; statements = ss; versions = versions; weights = weights } in k) more
     ∙ ap (λ (k : Catalog). with_statement k name q) view

@@ -1,38 +1,33 @@
 -- A version of a table put into the entries: what the present versions hold then.
-use Rattle.std.proofs.Common.{◌<◌, ℕ, ◌≡◌, ◌≤◌, ◌∙◌, ◌+◌, List, [], ◌∷◌, length, Some, None, ap, sym, refl, cond, Bool, true, false, arith, subst}
+use Rattle.std.proofs.Common.{◌<◌, ℕ, ◌≡◌, ◌≤◌, ◌∙◌, ◌+◌, List, [], ◌∷◌, length, Some, None, ap, sym, refl, cond, Bool}
+use Rattle.std.proofs.Common.{true, false, arith, subst}
 use Rattle.std.specs.Map.{lookup}
 use Rattle.std.specs.Str.{bytes_eq}
 use Rattle.indexmap.specs.IndexMap.{insert_entry}
 use Rattle.row_values.specs.Statements.{Statement}
 use Rattle.row_values.specs.declared.columns.Column.{Column}
 use Rattle.csv_tables.specs.Tables.{IsTable, TableValue}
-use Rattle.catalog_model.specs.Catalogs.{Catalog, TableState, Version, find_table, put_version, next_version, with_version}
-use Rattle.catalog_model.specs.Held.{cells_of, present_versions, cells_in, bytes_in, cells_held, bytes_held, numbers_differ}
+use Rattle.plan_trees.specs.declared.statistics.Weights.{Weights}
+use Rattle.catalog_model.specs.Catalogs.{Catalog, TableState, Version, find_table, put_version, next_version}
+use Rattle.catalog_model.specs.Catalogs.{with_version}
+use Rattle.catalog_model.specs.Held.{cells_of, present_versions, cells_in, bytes_in, cells_held, bytes_held}
+use Rattle.catalog_model.specs.Held.{numbers_differ}
 use Rattle.catalog_model.specs.Loading.{are_same_columns, has_other_columns, limit_passed_by}
 use Rattle.catalog_model.specs.Sound.{IsCatalog}
 use Rattle.catalog_model.proofs.Loads.{kept}
 use Rattle.catalog_model.proofs.Versions.{cells_once, bytes_once, numbers_put}
-use Rattle.session_store.specs.Kept.{version_of, tables_in, statements_in, catalog_in, IsKept, AreTotals}
+use Rattle.session_store.specs.Kept.{HeldTable, flags_of, tables_in, catalog_in, IsKept, AreTotals}
+use Rattle.session_store.specs.Measures.{measures_of}
 use Rattle.session_store.specs.declared.loading.Totals.{Totals}
-use Rattle.session_store.specs.declared.store.Held.{Held}
+use Rattle.session_store.specs.declared.measures.Measure.{Measure}
 use Rattle.session_store.proofs.Entries.{length-tables_in}
 
-abbrev pub state_of : List ℕ → Version → TableState
-state_of name version = record { name = name; now = version; indexed = [] }
+-- an entry as a table, with its own version and with another
+abbrev table_at : List ℕ × HeldTable → TableState
+table_at e = record { name = e.0; now = e.1.version; indexed = flags_of e.1.indexes }
 
-put_by : (test : Bool) (e : List ℕ × Held) (es : List (List ℕ × Held)) (name : List ℕ) (held : Held) →
-    tables_in (insert_entry bytes_eq es name held) ≡ put_version (tables_in es) name (version_of held) →
-    tables_in (cond test ((e.0, held) ∷ es) (e ∷ insert_entry bytes_eq es name held))
-    ≡ cond test (state_of e.0 (version_of held) ∷ tables_in es)
-    (state_of e.0 (version_of e.1) ∷ put_version (tables_in es) name (version_of held))
-put_by true e es name held later = refl
-put_by false e es name held later = ap (λ (ts : List TableState). state_of e.0 (version_of e.1) ∷ ts) later
-
--- inserting an entry puts its version
-pub put_entry : (es : List (List ℕ × Held)) (name : List ℕ) (held : Held)
-    → tables_in (insert_entry bytes_eq es name held) ≡ put_version (tables_in es) name (version_of held)
-put_entry [] name held = refl
-put_entry (e ∷ es) name held = put_by (bytes_eq name e.0) e es name held (put_entry es name held)
+abbrev renewed : List ℕ × HeldTable → Version → TableState
+renewed e version = record { name = e.0; now = version; indexed = flags_of e.1.indexes }
 
 -- What the versions hold.
 
@@ -44,13 +39,13 @@ pub record Grown (ts : List TableState) (version : Version) (cells bytes more : 
   pub cells_there : cells ≤ cells_in (present_versions ts)
   pub bytes_there : bytes ≤ bytes_in (present_versions ts)
 
-absent_by : (test : Bool) (e : List ℕ × Held) (es : List (List ℕ × Held)) (name : List ℕ) (version : Version)
+absent_by : (test : Bool) (e : List ℕ × HeldTable) (es : List (List ℕ × HeldTable)) (name : List ℕ) (version : Version)
     → cond test (Some e.1) (lookup (λ k. bytes_eq name k) es) ≡ None →
     (lookup (λ k. bytes_eq name k) es ≡ None
     → Grown (tables_in es) version 0 0 1 (put_version (tables_in es) name version)) →
-    Grown (state_of e.0 (version_of e.1) ∷ tables_in es) version 0 0 1
-    (cond test (state_of e.0 version ∷ tables_in es)
-    (state_of e.0 (version_of e.1) ∷ put_version (tables_in es) name version))
+    Grown (table_at e ∷ tables_in es) version 0 0 1
+    (cond test (renewed e version ∷ tables_in es)
+    (table_at e ∷ put_version (tables_in es) name version))
 absent_by true e es name version h later = absurd cc
 absent_by false e es name version h later =
     let g = later h in
@@ -64,7 +59,7 @@ absent_by false e es name version h later =
       bytes_there = omega arith;
     }
 
-pub absent : (es : List (List ℕ × Held)) (name : List ℕ) (version : Version) → lookup (λ k. bytes_eq name k) es ≡ None
+pub absent : (es : List (List ℕ × HeldTable)) (name : List ℕ) (version : Version) → lookup (λ k. bytes_eq name k) es ≡ None
     → Grown (tables_in es) version 0 0 1 (put_version (tables_in es) name version)
 absent [] name version h =
     record {
@@ -77,18 +72,18 @@ absent [] name version h =
     }
 absent (e ∷ es) name version h = absent_by (bytes_eq name e.0) e es name version h (absent es name version)
 
-present_by : (test : Bool) (e : List ℕ × Held) (es : List (List ℕ × Held)) (name : List ℕ) (version : Version)
-    (held : Held) → cond test (Some e.1) (lookup (λ k. bytes_eq name k) es) ≡ Some held →
+present_by : (test : Bool) (e : List ℕ × HeldTable) (es : List (List ℕ × HeldTable)) (name : List ℕ) (version : Version)
+    (held : HeldTable) → cond test (Some e.1) (lookup (λ k. bytes_eq name k) es) ≡ Some held →
     (lookup (λ k. bytes_eq name k) es ≡ Some held
-    → Grown (tables_in es) version (cells_of held.table.value) held.bytes 0
+    → Grown (tables_in es) version (cells_of held.version.content) held.version.bytes 0
     (put_version (tables_in es) name version)) →
-    Grown (state_of e.0 (version_of e.1) ∷ tables_in es) version (cells_of held.table.value) held.bytes 0
-    (cond test (state_of e.0 version ∷ tables_in es)
-    (state_of e.0 (version_of e.1) ∷ put_version (tables_in es) name version))
+    Grown (table_at e ∷ tables_in es) version (cells_of held.version.content) held.version.bytes 0
+    (cond test (renewed e version ∷ tables_in es)
+    (table_at e ∷ put_version (tables_in es) name version))
 present_by true e es name version held h later =
     let same : e.1 ≡ held = cc in
-    let a : cells_of e.1.table.value ≡ cells_of held.table.value = ap (λ (x : Held). cells_of x.table.value) same in
-    let b : e.1.bytes ≡ held.bytes = ap (λ (x : Held). x.bytes) same in
+    let a : cells_of e.1.version.content ≡ cells_of held.version.content = ap (λ (x : HeldTable). cells_of x.version.content) same in
+    let b : e.1.version.bytes ≡ held.version.bytes = ap (λ (x : HeldTable). x.version.bytes) same in
     record {
       count = omega arith;
       cell_count = omega arith;
@@ -109,27 +104,28 @@ present_by false e es name version held h later =
       bytes_there = omega arith;
     }
 
-pub present : (es : List (List ℕ × Held)) (name : List ℕ) (version : Version) (held : Held)
+pub present : (es : List (List ℕ × HeldTable)) (name : List ℕ) (version : Version) (held : HeldTable)
     → lookup (λ k. bytes_eq name k) es ≡ Some held →
-    Grown (tables_in es) version (cells_of held.table.value) held.bytes 0 (put_version (tables_in es) name version)
+    Grown (tables_in es) version (cells_of held.version.content) held.version.bytes 0 (put_version (tables_in es) name version)
 present [] name version held h = absurd cc
 present (e ∷ es) name version held h =
     present_by (bytes_eq name e.0) e es name version held h (present es name version held)
 
 -- what the counts of a store are, as plain sums over its tables
-pub record Counted (es : List (List ℕ × Held)) (cells bytes : ℕ) : Type 0 where
+pub record Counted (es : List (List ℕ × HeldTable)) (cells bytes : ℕ) : Type 0 where
   pub cells_are : cells ≡ cells_in (present_versions (tables_in es))
   pub bytes_are : bytes ≡ bytes_in (present_versions (tables_in es))
 
-pub counted : (es : List (List ℕ × Held)) (ss : List (List ℕ × Statement)) (versions cells bytes : ℕ)
-    → IsKept (catalog_in es ss versions) cells bytes → Counted es cells bytes
-counted es ss versions cells bytes k = record {
+pub counted : (es : List (List ℕ × HeldTable)) (ss : List (List ℕ × Statement)) (versions : ℕ) (weights : Weights)
+    (measures : List Measure) (cells bytes : ℕ) → IsKept (catalog_in es ss versions weights) measures cells bytes
+    → Counted es cells bytes
+counted es ss versions weights measures cells bytes k = record {
   cells_are = k.cell_count ∙ cells_once (present_versions (tables_in es)) k.sound.version_numbers;
   bytes_are = k.byte_count ∙ bytes_once (present_versions (tables_in es)) k.sound.version_numbers;
 }
 
 -- the totals with a version that is put
-pub totals_after : (now : Catalog) (es : List (List ℕ × Held)) (name : List ℕ) (content : TableValue)
+pub totals_after : (now : Catalog) (es : List (List ℕ × HeldTable)) (name : List ℕ) (content : TableValue)
     (length_in_bytes : ℕ) (totals : Totals) (cells bytes more : ℕ) → tables_in es ≡ now.tables → IsCatalog [] now →
     Grown (tables_in es) (next_version now content length_in_bytes) cells bytes more
     (put_version (tables_in es) name (next_version now content length_in_bytes)) →
@@ -156,37 +152,20 @@ totals_after now es name content length_in_bytes totals cells bytes more view so
     let gc = g.count in let gd = g.cell_count in let gb = g.byte_count in
     record { tables_held = omega arith; cells = omega arith; bytes = omega arith }
 
--- A call of `put`.
-
--- the catalog after an entry was inserted
-pub catalog_after : (now : Catalog) (es es' : List (List ℕ × Held)) (ss : List (List ℕ × Statement)) (name n : List ℕ)
-    (held : Held) (content : TableValue) (bytes versions : ℕ) →
-    catalog_in es ss versions ≡ now → es' ≡ insert_entry bytes_eq es name held → name ≡ n → held.table.value ≡ content
-    → held.bytes ≡ bytes → held.number ≡ versions →
-    catalog_in es' ss (versions + 1) ≡ with_version now n (next_version now content bytes)
-catalog_after now es es' ss name n held content bytes versions view e a b c d =
-    let v : version_of held ≡ record { content = content; bytes = bytes; number = versions } = rw (b, c, d) refl in
-    let put : tables_in es' ≡ put_version (tables_in es) n
-    (record { content = content; bytes = bytes; number = versions }) =
-    ap tables_in e ∙ (put_entry es name held
-    ∙ (ap (λ (x : List ℕ). put_version (tables_in es) x (version_of held)) a ∙ ap (put_version (tables_in es) n) v))
-    in
-    ap (λ (x : List TableState). let k : Catalog =
-    record { tables = x; statements = statements_in ss; versions = versions + 1 } in k) put
-    ∙ ap (λ (k : Catalog). with_version k n (next_version k content bytes)) view
-
 -- the invariant after it
 pub kept_after : (now after : Catalog) (name : List ℕ) (content : TableValue) (bytes : ℕ) (totals : Totals)
-    → IsCatalog [] now → after ≡ with_version now name (next_version now content bytes) → IsTable content →
+    (measures : List Measure) → IsCatalog [] now → after ≡ with_version now name (next_version now content bytes) → IsTable content →
     has_other_columns (find_table now.tables name) content ≡ false
     → AreTotals totals (put_version now.tables name (next_version now content bytes)) →
     limit_passed_by [] (put_version now.tables name (next_version now content bytes)) ≡ None
-    → IsKept after totals.cells totals.bytes
-kept_after now after name content bytes totals sound e table columns are limits =
-    subst (λ (k : Catalog). IsKept k totals.cells totals.bytes) (sym e)
+    → measures ≡ measures_of (put_version now.tables name (next_version now content bytes)) now.weights now.statements
+    → IsKept after measures totals.cells totals.bytes
+kept_after now after name content bytes totals measures sound e table columns are limits measured =
+    subst (λ (k : Catalog). IsKept k measures totals.cells totals.bytes) (sym e)
     (record {
       cell_count = are.cells;
       byte_count = are.bytes;
+      measured = measured;
       sound =
           kept [] now name (next_version now content bytes) sound refl table columns limits;
     })

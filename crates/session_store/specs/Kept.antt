@@ -1,35 +1,82 @@
 -- What a store keeps, as the catalog that contracts see.
-use Rattle.std.specs.Prelude.{ℕ, ◌≡◌, ◌||◌, List, [], ◌∷◌, length, Bool, false}
+use Rattle.std.specs.Prelude.{ℕ, ◌≡◌, ◌<◌, ◌||◌, List, [], ◌∷◌, ◌++◌, length, map, slice_get, All, Bool, false, Option}
+use Rattle.std.specs.Prelude.{None, Some, is_some, if◌then◌else◌}
+use Rattle.std.specs.Prelude.{IfSome}
 use Rattle.std.specs.Str.{bytes_eq}
+use Rattle.std.specs.declared.alloc.Global.{Global}
+use Rattle.std.specs.declared.rc.Rc.{Rc}
 use Rattle.row_values.specs.Statements.{Statement}
 use Rattle.row_values.specs.declared.statement.Place.{Place}
-use Rattle.catalog_model.specs.Catalogs.{Catalog, TableState, StatementState, Version}
+use Rattle.csv_tables.specs.Tables.{TableValue}
+use Rattle.plan_trees.specs.declared.statistics.Weights.{Weights}
+use Rattle.table_index.specs.Indexes.{IndexValue, IsBuilt}
+use Rattle.table_index.specs.StatementIndexes.{indexes_in, mask_of}
+use Rattle.selectivity_counts.specs.Kept.{distinct_counts}
+use Rattle.catalog_model.specs.Catalogs.{Catalog, TableState, StatementState, Version, find_table, flags_named}
 use Rattle.catalog_model.specs.Held.{present_versions, cells_held, bytes_held}
 use Rattle.catalog_model.specs.Sound.{IsCatalog}
-use Rattle.session_store.specs.declared.store.Held.{Held}
+use Rattle.session_store.specs.Measures.{measures_of}
 use Rattle.session_store.specs.declared.loading.Totals.{Totals}
+use Rattle.session_store.specs.declared.measures.Measure.{Measure}
 
--- a version that is held
-abbrev pub version_of : Held → Version
-version_of held = record { content = held.table.value; bytes = held.bytes; number = held.number }
+-- a table that is held: its present version, and for each column its index, where there is one
+pub record HeldTable : Type 0 where
+  pub version : Version
+  pub indexes : List (Option IndexValue)
 
--- the entries of tables, none of which has an index yet
-abbrev pub tables_in : List (List ℕ × Held) → List TableState
+-- of each column whether it is indexed
+abbrev pub flags_of : List (Option IndexValue) → List Bool
+flags_of indexes = map (λ entry. is_some entry) indexes
+
+-- what is held, in its parts
+abbrev pub held_table : TableValue → ℕ → ℕ → List (Option (Rc IndexValue Global)) → HeldTable
+held_table content bytes number entries = record {
+  version = record { content = content; bytes = bytes; number = number };
+  indexes = indexes_in entries;
+}
+
+-- a version of a new table, which has no index
+abbrev pub unindexed : Version → HeldTable
+unindexed version = record { version = version; indexes = map (λ column. None) version.content.schema }
+
+-- each index among these entries was built of the table over its column
+abbrev pub AreBuilt : TableValue → List (Option IndexValue) → Type 0
+AreBuilt content indexes =
+    (column : ℕ) (index : IndexValue) → slice_get indexes column ≡ Some (Some index) → IsBuilt content column index
+
+-- there is an entry for each column, and each index there was built of the table over its column
+pub record IsIndexed (held : HeldTable) : Type 0 where
+  pub one_each : length held.indexes ≡ length held.version.content.schema
+  pub built : AreBuilt held.version.content held.indexes
+
+-- what is held is indexed, and the distinct counts that are kept are those of the table
+pub record IsHeldTable (held : HeldTable) (distincts : Option (Rc (List ℕ) Global)) : Type 0 where
+  pub indexed : IsIndexed held
+  pub counted : IfSome distincts (λ counts. counts.value ≡ distinct_counts held.version.content)
+
+-- the tables that are held, in the order of their names' entries
+abbrev pub tables_in : List (List ℕ × HeldTable) → List TableState
 tables_in [] = []
-tables_in (e ∷ es) = record { name = e.0; now = version_of e.1; indexed = [] } ∷ tables_in es
+tables_in (e ∷ es) = record { name = e.0; now = e.1.version; indexed = flags_of e.1.indexes } ∷ tables_in es
 
 abbrev pub statements_in : List (List ℕ × Statement) → List StatementState
 statements_in [] = []
 statements_in (e ∷ es) = record { name = e.0; statement = e.1 } ∷ statements_in es
 
-abbrev pub catalog_in : List (List ℕ × Held) → List (List ℕ × Statement) → ℕ → Catalog
-catalog_in tables statements versions =
-    record { tables = tables_in tables; statements = statements_in statements; versions = versions }
+abbrev pub catalog_in : List (List ℕ × HeldTable) → List (List ℕ × Statement) → ℕ → Weights → Catalog
+catalog_in tables statements versions weights = record {
+  tables = tables_in tables;
+  statements = statements_in statements;
+  versions = versions;
+  weights = weights;
+}
 
--- the counts are those of the present versions, and the catalog is sound; no cursor holds a version yet
-pub record IsKept (catalog : Catalog) (cells bytes : ℕ) : Type 0 where
+-- the counts are those of the present versions, the measures are those of the statements, and the catalog is sound; no
+-- cursor holds a version yet
+pub record IsKept (catalog : Catalog) (measures : List Measure) (cells bytes : ℕ) : Type 0 where
   pub cell_count : cells ≡ cells_held (present_versions catalog.tables)
   pub byte_count : bytes ≡ bytes_held (present_versions catalog.tables)
+  pub measured : measures ≡ measures_of catalog.tables catalog.weights catalog.statements
   pub sound : IsCatalog [] catalog
 
 -- these are the numbers of the tables, of their cells and of their bytes
@@ -42,3 +89,45 @@ pub record AreTotals (totals : Totals) (tables : List TableState) : Type 0 where
 abbrev pub reads_table : List ℕ → List Place → Bool
 reads_table name [] = false
 reads_table name (place ∷ places) = bytes_eq place.table name || reads_table name places
+
+-- The tables of a statement's places.
+
+abbrev pub contents_of : List HeldTable → List TableValue
+contents_of held = map (λ one. one.version.content) held
+
+-- the entries of all columns, place by place
+abbrev pub entries_of : List HeldTable → List (Option IndexValue)
+entries_of [] = []
+entries_of (one ∷ held) = one.indexes ++ entries_of held
+
+-- this is held of the table of a place
+pub record IsHeldAt (tables : List TableState) (place : Place) (held : HeldTable) : Type 0 where
+  pub content : Some held.version.content ≡ find_table tables place.table
+  pub flags : flags_of held.indexes ≡ flags_named tables place.table
+  pub indexed : IsIndexed held
+
+-- these are held of the tables of these places, in their order, and each is indexed
+pub record AreHeld (tables : List TableState) (places : List Place) (held : List HeldTable) : Type 0 where
+  pub contents : map (λ one. Some one.version.content) held ≡ map (λ place. find_table tables place.table) places
+  pub flags : map (λ one. flags_of one.indexes) held ≡ map (λ place. flags_named tables place.table) places
+  pub indexed : All IsIndexed held
+
+-- the masks of what is held
+abbrev pub masks_in : List HeldTable → List ℕ
+masks_in held = map (λ one. mask_of one.indexes) held
+
+-- Changes.
+
+-- the tables with this held under this name, in the place of what was there or behind the others
+abbrev pub put_held : List TableState → List ℕ → HeldTable → List TableState
+put_held [] name held = record { name = name; now = held.version; indexed = flags_of held.indexes } ∷ []
+put_held (table ∷ tables) name held =
+    if bytes_eq name table.name then
+    record { name = table.name; now = held.version; indexed = flags_of held.indexes } ∷ tables else
+    table ∷ put_held tables name held
+
+-- the table of this name has this column
+pub record HasColumn (tables : List TableState) (name : List ℕ) (column : ℕ) : Type 0 where
+  pub content : TableValue
+  pub found : find_table tables name ≡ Some content
+  pub in_range : column < length content.schema

@@ -1,2 +1,3 @@
 pub mod Kept
+pub mod Measures
 pub mod Outcomes

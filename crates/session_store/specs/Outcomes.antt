@@ -5,7 +5,10 @@ use Rattle.row_values.specs.Statements.{Statement}
 use Rattle.row_values.specs.declared.refusals.Refusal.{Refusal}
 use Rattle.row_values.specs.declared.values.Value.{Value}
 use Rattle.name_binder.specs.declared.faults.BindFault.{BindFault}
-use Rattle.catalog_model.specs.Catalogs.{Catalog, Version, with_version, with_statement}
+use Rattle.plan_trees.specs.Statistics.{IsSoundStats, IsSoundVector}
+use Rattle.statement_meaning.specs.Vectors.{vector_of}
+use Rattle.catalog_model.specs.Catalogs.{Catalog, Version, stats_now, tables_of, with_index, with_statement}
+use Rattle.catalog_model.specs.Catalogs.{with_version}
 use Rattle.catalog_model.specs.Faults.{bind_refusal}
 use Rattle.catalog_model.specs.Instances.{Instance}
 use Rattle.session_store.specs.declared.faults.StoreFault.{StoreFault}
@@ -34,6 +37,21 @@ Loads wanted old name (Ok counts) new =
     × (counts.1 ≡ length version.content.schema) × (new ≡ with_version old name version)
 Loads wanted old name (Err fault) new = Says wanted fault × (new ≡ old)
 
+-- the number of the column that is wanted; or its refusal, or want of memory
+abbrev pub Names : Result ℕ Refusal → Result ℕ StoreFault → Type 0
+Names wanted (Ok column) = wanted ≡ Ok column
+Names wanted (Err fault) = Says wanted fault
+
+-- the column is indexed, or memory was short and nothing changed
+abbrev pub KeepsIndex : Catalog → List ℕ → ℕ → Result (Unit {0}) StoreFault → Catalog → Type 0
+KeepsIndex old table column (Ok done) new = new ≡ with_index old table column
+KeepsIndex old table column (Err fault) new = (fault ≡ Memory) × (new ≡ old)
+
+-- the column that is wanted is indexed; or nothing changed
+abbrev pub Indexes : Result ℕ Refusal → Catalog → List ℕ → Result (Unit {0}) StoreFault → Catalog → Type 0
+Indexes wanted old table (Ok done) new = (column : ℕ) × (wanted ≡ Ok column) × (new ≡ with_index old table column)
+Indexes wanted old table (Err fault) new = Says wanted fault × (new ≡ old)
+
 -- the statement that the binding gives; or its refusal, or want of memory
 abbrev pub Binds : Result Statement BindFault → Result Statement StoreFault → Type 0
 Binds binding (Ok q) = binding ≡ Ok q
@@ -52,8 +70,19 @@ IsNumber catalog q number =
     (number < length catalog.statements)
     × (option_map (λ prepared. prepared.statement) (slice_get catalog.statements number) ≡ Some q)
 
--- the number of the statement that is wanted with these arguments; or its refusal, or want of memory
+-- an instance that is told: the statement that is wanted with these arguments, by its number, its statistics over the
+-- present tables, and its vector; both are sound
+pub record IsInstance (wanted : Result Instance Refusal) (catalog : Catalog) (args : List Value)
+    (told : stored.Instance) : Type 0 where
+  pub query : Statement
+  pub instance_is : wanted ≡ Ok (record { statement = query; args = args })
+  pub number : IsNumber catalog query told.statement
+  pub stats_are : told.stats ≡ stats_now catalog.tables catalog.weights query
+  pub vector_is : told.at ≡ vector_of query (tables_of catalog.tables query) args
+  pub sound_stats : IsSoundStats query told.stats
+  pub sound_vector : IsSoundVector query told.stats told.at
+
+-- an instance of the statement that is wanted with these arguments; or its refusal, or want of memory
 abbrev pub Instantiates : Result Instance Refusal → Catalog → List Value → Result stored.Instance StoreFault → Type 0
-Instantiates wanted catalog args (Ok found) =
-    (q : Statement) × (wanted ≡ Ok (record { statement = q; args = args })) × IsNumber catalog q found.statement
+Instantiates wanted catalog args (Ok told) = IsInstance wanted catalog args told
 Instantiates wanted catalog args (Err fault) = Says wanted fault

@@ -1,14 +1,18 @@
-//! The catalog of a session: tables with their versions, and prepared statements, by name and in the order in which they
-//! came.
+//! The catalog of a session: tables with their versions and indexes, and prepared statements, by name and in the order
+//! in which they came.
 //!
 //! Each name stands once. A call that is refused or lacks memory leaves everything as it was: it makes its growths
-//! first. The ways in are `Store::load`, `Store::prepare` and `Store::instance`; each of their refusals is exact and in
-//! its order. It knows no script line and no reply.
+//! first. An instance counts nothing but its vector, since the statistics of each statement are kept. The ways in are
+//! `Store::load`, `Store::add_index`, `Store::prepare` and `Store::instance`; each of their refusals is exact and in its
+//! order. It knows no script line and no reply.
 #![tactic(auto)]
 
 mod faults;
+mod held;
+mod indexing;
 mod instances;
 mod loading;
+mod measures;
 mod preparing;
 mod store;
 #[cfg(test)]

@@ -7,16 +7,16 @@ ghost use Rattle.catalog_model.specs.Faults.{fault_text as shown_fault};
 ghost use Rattle.catalog_model.specs.Held.{cells_of as cells_in_table};
 ghost use Rattle.catalog_model.specs.Loading as loading;
 ghost use Rattle.session_store.specs.Outcomes.{Loads, Keeps};
-ghost use Rattle.session_store.specs.Kept.{AreTotals};
+ghost use Rattle.session_store.specs.Kept.{AreTotals, put_held};
 
 use crate::faults::StoreFault;
-use crate::store::{Held, Store};
+use crate::held::Held;
+use crate::store::Store;
 use catalog_model::{HELD_BYTE_LIMIT, HELD_CELL_LIMIT, TABLE_LIMIT};
 use csv_tables::{Table, TableFault, read_table};
 use outside_model::FILE_LIMIT;
 use row_values::{Column, Kind, OutOfMemory, Refusal, Words, canonical_name};
 use std::alloc::Global;
-use std::rc::Rc;
 
 /// The cells of a table.
 fn cells_of(table: &Table) -> usize
@@ -102,7 +102,7 @@ impl Store {
         match self.tables.get(name) {
             None => false,
             Some(held) => !are_same_columns(
-                held.table.schema().columns(),
+                held.table().schema().columns(),
                 table.schema().columns(),
             ),
         }
@@ -122,9 +122,22 @@ impl Store {
             },
             Some(held) => Totals {
                 tables: self.tables.len(),
-                cells: self.cells - cells_of(&held.table) + cells,
-                bytes: self.bytes - held.bytes + bytes,
+                cells: self.cells - cells_of(held.table()) + cells,
+                bytes: self.bytes - held.bytes() + bytes,
             },
+        }
+    }
+
+    /// What is held under this name with the table as its next version.
+    fn next_held(&self, name: &Words, table: Table, bytes: usize) -> Result<Held, OutOfMemory>
+        requires { loading.has_other_columns (find_table self.now.tables name.now) table ≡ false }
+        ensures version { IfOk result (λ held. held.version ≡ next_version self.now table bytes) }
+        ensures put { IfOk result (λ held. put_held self.now.tables name.now held
+            ≡ put_version self.now.tables name.now (next_version self.now table bytes)) }
+    {
+        match self.tables.get(name) {
+            None => Held::first(self.alloc, table, bytes, self.versions),
+            Some(before) => before.next(self.alloc, table, bytes, self.versions),
         }
     }
 
@@ -144,17 +157,10 @@ impl Store {
         requires versions { self.old.versions < 2 ^ 62 }
         ensures { Keeps self.old name.now (next_version self.old table bytes) result self.new }
     {
-        let name = name.copy(self.alloc)?;
-        let table = Rc::new(self.alloc, table)?;
-        let number = self.versions;
-        self.tables.insert(
-            name,
-            Held {
-                table,
-                bytes,
-                number,
-            },
-        )?;
+        let held = self.next_held(name, table, bytes)?;
+        let measures = self.measures_with(name, &held)?;
+        self.tables.insert(name.copy(self.alloc)?, held)?;
+        self.measures = measures;
         self.cells = totals.cells;
         self.bytes = totals.bytes;
         self.versions += 1;

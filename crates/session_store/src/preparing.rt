@@ -1,18 +1,20 @@
 //! Preparing a statement: it is bound to the tables that are loaded, and kept under its name.
-ghost use Rattle.std.specs.Prelude.{◌≡◌, ◌≢◌, ◌<◌, All, None, length};
+ghost use Rattle.std.specs.Prelude.{◌≡◌, ◌≢◌, ◌<◌, All, IfOk, IfSome, None, length};
 ghost use Rattle.name_binder.specs.Binding.{binding_of};
 ghost use Rattle.catalog_model.specs.Catalogs.{find_statement, schemas_of};
 ghost use Rattle.catalog_model.specs.Faults as faults;
 ghost use Rattle.catalog_model.specs.Preparing.{preparing_of};
 ghost use Rattle.catalog_model.specs.Sound.{IsLoaded};
 ghost use Rattle.catalog_model.specs.declared.TheConstants.{STATEMENT_LIMIT};
+ghost use Rattle.session_store.specs.Kept.{put_held};
 ghost use Rattle.session_store.specs.Outcomes.{Binds, KeepsStatement, Prepares};
 
 use crate::faults::StoreFault;
+use crate::held::Held;
 use crate::store::Store;
 use catalog_model::STATEMENT_LIMIT;
 use name_binder::{BindFault, bind};
-use row_values::{Query, Refusal, Words, canonical_name};
+use row_values::{OutOfMemory, Place, Query, Refusal, Words, canonical_name};
 use sql_parser::Select;
 
 /// The refusal of a statement that can't be bound.
@@ -45,16 +47,69 @@ impl Store {
         }
     }
 
+    /// What is held under this name with its distinct counts, unless they are kept already.
+    fn counted_at(&self, table: &Words) -> Result<Option<Held>, OutOfMemory>
+        ensures { IfOk result (λ found. IfSome found (λ held. put_held self.now.tables table.now held
+            ≡ self.now.tables)) }
+    {
+        match self.tables.get(table) {
+            None => Ok(None),
+            Some(held) => {
+                if held.is_counted() {
+                    return Ok(None);
+                }
+                let held = held.counted(self.alloc)?;
+                Ok(Some(held))
+            }
+        }
+    }
+
+    /// Keeps the distinct counts of the table of this name.
+    fn keep_counts(&mut self, table: &Words) -> Result<(), OutOfMemory>
+        ensures { self.new ≡ self.old }
+    {
+        match self.counted_at(table)? {
+            None => Ok(()),
+            Some(held) => {
+                self.tables.insert(table.copy(self.alloc)?, held)?;
+                Ok(())
+            }
+        }
+    }
+
+    /// Keeps the distinct counts of the tables of these places.
+    fn keep_all_counts(&mut self, places: &[Place]) -> Result<(), OutOfMemory>
+        ensures { self.new ≡ self.old }
+    {
+        for place in places {
+            self.keep_counts(&place.table)?;
+        }
+        Ok(())
+    }
+
     /// Puts a statement whose tables are loaded under a free name, behind the others.
-    fn put_statement(&mut self, name: &Words, q: Query) -> Result<(), StoreFault>
+    fn insert_statement(&mut self, name: &Words, q: Query) -> Result<(), StoreFault>
         requires free { find_statement self.old.statements name.now ≡ None }
         requires loaded { All (IsLoaded self.old.tables) q.places }
         requires room { length self.old.statements < STATEMENT_LIMIT }
         ensures { KeepsStatement self.old name.now q result self.new }
     {
         q.sound();
+        let measures = self.measures_and(&q)?;
         self.statements.insert(name.copy(self.alloc)?, q)?;
+        self.measures = measures;
         Ok(())
+    }
+
+    /// The same, with the distinct counts of its tables kept.
+    fn put_statement(&mut self, name: &Words, q: Query) -> Result<(), StoreFault>
+        requires free { find_statement self.old.statements name.now ≡ None }
+        requires loaded { All (IsLoaded self.old.tables) q.places }
+        requires room { length self.old.statements < STATEMENT_LIMIT }
+        ensures { KeepsStatement self.old name.now q result self.new }
+    {
+        self.keep_all_counts(q.places())?;
+        self.insert_statement(name, q)
     }
 
     /// Keeps the statement under this name, and tells its number, from 0. It is refused where the name is taken, the

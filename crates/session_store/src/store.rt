@@ -1,34 +1,37 @@
 //! The catalog, and what it tells.
-ghost use Rattle.std.specs.Prelude.{◌≡◌, ◌<◌, [], length, map, slice_get, IfOk, IfSome, IfNone, All, Some, None, ℕ};
+ghost use Rattle.std.specs.Prelude.{◌≡◌, ◌<◌, List, length, slice_get, IfOk, IfSome, IfNone, All, Some, None};
 ghost use Rattle.std.specs.Option.{option_map};
 ghost use Rattle.row_values.specs.Statements.{Statement as Bound};
 ghost use Rattle.csv_tables.specs.StatementTables.{AreTablesOf, rows_in, tables_in};
-ghost use Rattle.catalog_model.specs.Catalogs.{empty_catalog, find_statement, find_table, tables_of};
-ghost use Rattle.catalog_model.specs.Sound.{IsCatalog, IsLoaded};
-ghost use Rattle.session_store.specs.Kept.{reads_table};
+ghost use Rattle.csv_tables.specs.Tables.{TableValue};
+ghost use Rattle.plan_trees.specs.Statistics.{AreWeights};
+ghost use Rattle.table_index.specs.StatementIndexes.{AreIndexesOf, indexes_in, masks_of};
+ghost use Rattle.catalog_model.specs.Catalogs.{ArePresent, empty_catalog, find_statement, masks_now, tables_of};
+ghost use Rattle.catalog_model.specs.Sound.{IsLoaded};
+ghost use Rattle.session_store.specs.Kept.{AreHeld, reads_table};
 
+use crate::held;
+use crate::held::Held;
+use crate::measures::Measure;
 use csv_tables::Table;
 use indexmap::IndexMap;
 use name_binder::Schemas;
+use plan_trees::Weights;
 use row_values::{OutOfMemory, Place, Query, Schema, Words};
 use std::alloc::Global;
 use std::marker::Model;
 use std::rc::Rc;
-
-/// A table, the length of its file, and the number of this version of it.
-#[derive(Debug, Drop)]
-pub struct Held {
-    pub(crate) table: Rc<Table>,
-    pub(crate) bytes: usize,
-    pub(crate) number: u64,
-}
+use table_index::Index;
 
 /// The tables and statements of a session; contracts see a catalog, which is sound.
 #[derive(Drop)]
 pub struct Store {
     pub(crate) alloc: Global,
+    pub(crate) weights: Weights,
     pub(crate) tables: IndexMap<Words, Held>,
     pub(crate) statements: IndexMap<Words, Query>,
+    /// The measure of each statement over the present tables, in their order.
+    pub(crate) measures: Vec<Measure>,
     pub(crate) cells: usize,
     pub(crate) bytes: usize,
     pub(crate) versions: u64,
@@ -40,9 +43,10 @@ impl Model for Store {
 
     ghost Value = { Catalog };
 
-    ghost view = { λ s. catalog_in s.tables.entries s.statements.entries s.versions };
+    ghost view = { λ s. catalog_in s.tables.entries s.statements.entries s.versions s.weights };
 
-    ghost invariant = { λ s. IsKept (catalog_in s.tables.entries s.statements.entries s.versions) s.cells s.bytes };
+    ghost invariant = { λ s. IsKept (catalog_in s.tables.entries s.statements.entries s.versions s.weights)
+        s.measures.items s.cells s.bytes };
 }
 
 impl Schemas for Store {
@@ -53,7 +57,7 @@ impl Schemas for Store {
     fn schema(&self, table: &str) -> Option<&Schema> {
         for (name, held) in self.tables.iter() {
             if name.as_str() == table {
-                return Some(held.table.schema());
+                return Some(held.table().schema());
             }
         }
         None
@@ -62,13 +66,16 @@ impl Schemas for Store {
 
 impl Store {
     /// Nothing is kept yet. It takes no memory.
-    pub fn new(alloc: Global) -> Store
-        ensures { result ≡ empty_catalog }
+    pub fn new(alloc: Global, weights: Weights) -> Store
+        requires { AreWeights weights }
+        ensures { result ≡ empty_catalog weights }
     {
         Store {
             alloc,
+            weights,
             tables: IndexMap::new(alloc),
             statements: IndexMap::new(alloc),
+            measures: Vec::new(alloc),
             cells: 0,
             bytes: 0,
             versions: 0,
@@ -116,20 +123,22 @@ impl Store {
         is_read(table, self.query(statement).places())
     }
 
-    /// The present table of each of these places, in their order.
-    fn tables_of_places(&self, places: &[Place]) -> Result<Vec<Rc<Table>>, OutOfMemory>
+    /// What is held of the table of each of these places, in their order.
+    pub(crate) fn held_of(&self, places: &[Place]) -> Result<Vec<Held>, OutOfMemory>
         requires { All (IsLoaded self.now.tables) places.now }
-        ensures { IfOk result (λ tables. map (λ table. Some table.value) tables.items
-            ≡ map (λ place. find_table self.now.tables place.table) places.now) }
+        ensures { IfOk result (λ held. AreHeld self.now.tables places.now held.items) }
     {
-        let mut tables = Vec::new(self.alloc);
+        let mut held = Vec::with_capacity(self.alloc, places.len())?;
         for place in places {
             match self.tables.get(&place.table) {
-                Some(held) => tables.push(held.table.clone()?)?,
+                Some(one) => {
+                    one.sound();
+                    held.push(one.clone()?)?;
+                }
                 None => unreachable!(),
             }
         }
-        Ok(tables)
+        Ok(held)
     }
 
     /// The present table of each place of the statement of this number, in FROM order.
@@ -141,14 +150,33 @@ impl Store {
         ensures columns { IfOk result (λ tables. (q : Bound)
             → option_map (λ s. s.statement) (slice_get self.now.statements statement) ≡ Some q
             → AreTablesOf q (tables_in tables.items)) }
+        ensures present { IfOk result (λ tables. (q : Bound)
+            → option_map (λ s. s.statement) (slice_get self.now.statements statement) ≡ Some q
+            → ArePresent self.now.tables q (tables_in tables.items)) }
     {
-        let tables = self.tables_of_places(self.query(statement).places())?;
+        let held = self.held_of(self.query(statement).places())?;
+        let tables = held::tables_of(self.alloc, held.as_slice())?;
         Ok(tables)
+    }
+
+    /// The indexes of the statement of this number: an entry for each place and column, place by place.
+    pub fn indexes_of(&self, statement: u32) -> Result<Vec<Option<Rc<Index>>>, OutOfMemory>
+        requires { statement < length self.now.statements }
+        ensures built { IfOk result (λ indexes. (q : Bound) (tables : List TableValue)
+            → option_map (λ s. s.statement) (slice_get self.now.statements statement) ≡ Some q
+            → ArePresent self.now.tables q tables → AreIndexesOf q tables (indexes_in indexes.items)) }
+        ensures masks { IfOk result (λ indexes. (q : Bound)
+            → option_map (λ s. s.statement) (slice_get self.now.statements statement) ≡ Some q
+            → masks_of q.places indexes.items ≡ masks_now self.now.tables q) }
+    {
+        let held = self.held_of(self.query(statement).places())?;
+        let indexes = held::indexes_of(self.alloc, held.as_slice())?;
+        Ok(indexes)
     }
 }
 
 /// Whether one of these places reads the table of this name.
-fn is_read(table: &Words, places: &[Place]) -> bool
+pub(crate) fn is_read(table: &Words, places: &[Place]) -> bool
     ensures { result ≡ reads_table table.now places.now }
 {
     for place in places {

@@ -2,7 +2,7 @@ use Rattle.std.proofs.Common.{◌≡◌, ◌∙◌, arith, refl, ap}
 use Rattle.session_model.specs.State.{State, initial_state}
 use Rattle.session_engine.specs.Engines.{EngineState}
 use Rattle.instance_cli.specs.Defaults.{default_settings}
-use Rattle.instance_cli.specs.Report.{Moment}
+use Rattle.instance_cli.specs.Moments.{Moment}
 use Rattle.instance_cli.proofs.Runs.{lines_next, part_next}
 use Rattle.instance_cli.proofs.Served.{none_reported}
 use Rattle.instance_cli.proofs.serving.serve_lines.Goals as goal

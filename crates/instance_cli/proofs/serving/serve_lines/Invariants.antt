@@ -3,7 +3,7 @@ use Rattle.session_model.specs.Run.{spoken_from}
 use Rattle.session_model.specs.State.{initial_state}
 use Rattle.instance_cli.specs.Defaults.{default_settings}
 use Rattle.instance_cli.specs.Lines.{Reported}
-use Rattle.instance_cli.specs.Report.{Moment}
+use Rattle.instance_cli.specs.Moments.{Moment}
 use Rattle.instance_cli.proofs.serving.serve_lines.Given as goal
 
 -- what was written is the report of a run over the lines so far
