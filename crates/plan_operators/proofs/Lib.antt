@@ -2,6 +2,7 @@ pub mod EdgeTests
 pub mod IndexThere
 pub mod Joins
 pub mod KeyOrder
+pub mod KeyPoints
 pub mod KeyRanks
 pub mod PlaceRows
 pub mod Placing

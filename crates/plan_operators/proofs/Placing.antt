@@ -1,5 +1,5 @@
 -- Combinations over one place, one more at a time: one of zeros goes behind the others, and gets its row there.
-use Rattle.std.proofs.Common.{ℕ, ◌≡◌, ◌<◌, ◌≤◌, ◌+◌, ◌-◌, ◌++◌, List, [], ◌∷◌, length, map, take, get_or, set, ap, sym, ◌∙◌, subst, refl, arith}
+use Rattle.std.proofs.Common.{ℕ, ◌≡◌, ◌<◌, ◌+◌, ◌-◌, ◌++◌, List, [], ◌∷◌, length, map, take, get_or, set, ap, sym, ◌∙◌, subst, arith}
 use Rattle.std.proofs.lemmas.List.{length-map, length-take-le, map_more, set-append_right}
 use Rattle.std.proofs.Math.Seq.{get_or-append_seam}
 

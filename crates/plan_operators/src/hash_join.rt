@@ -1,10 +1,12 @@
 //! The hash join: two sides of any number of places, joined on an edge.
 //!
-//! The inner side is the build side. It is kept in the order of its keys and looked up by halving,
-//! not in a table of buckets: keys may be a stranger's, and neither many equal ones nor ones that
-//! collide cost more than what they join to. The way in is `hash_join`.
+//! The inner side is the build side. It is kept in the order of its keys. A list of hints says where
+//! a key is likely to begin; a hint is tested, and where it is wrong the key is found by halving: keys
+//! may be a stranger's, and neither many equal ones nor ones that collide cost more than that and
+//! what they join to. The way in is `hash_join`.
 ghost use Rattle.std.specs.Prelude.{◌≡◌, ◌+◌, ◌++◌, All, IfOk, IsPermutation, IsSortedBy, OnOk, filter, flat_map, length, map, not};
-ghost use Rattle.std.specs.Prelude.{◌<◌};
+ghost use Rattle.std.specs.Prelude.{◌<◌, ◌≤◌, ◌-◌, ◌⊎◌, IsTrue, Option, false, slice_index_or, slice_range, true, ℕ};
+ghost use Rattle.std.specs.List.Sorted.{IsPartitionedBy};
 ghost use Rattle.std.specs.Option.{option_map};
 ghost use Rattle.std.specs.Ordering.{is_eq, is_ge, is_le, is_lt};
 ghost use Rattle.plan_trees.specs.PlaceSets.{has};
@@ -13,7 +15,8 @@ ghost use Rattle.row_values.specs.Orders.{cell_order, compares};
 ghost use Rattle.statement_meaning.specs.PartialCombinations.{merged};
 ghost use Rattle.plan_operators.specs.Columns.{cell_seen, value_read};
 ghost use Rattle.plan_operators.specs.Edges.{all_meet};
-ghost use Rattle.plan_operators.specs.BuildSides.{IsBuildSide, has_lower_key};
+ghost use Rattle.plan_operators.specs.BuildSides.{IsBuildSide, IsPointOf, has_lower_key, is_below, is_up_to};
+ghost use Rattle.plan_operators.specs.declared.columns.Cell.{Cell as CellRead};
 ghost use Rattle.plan_operators.specs.Sources.{HasEachOnce, HasWantedPlaces, IsInOrder, IsSource};
 
 use crate::columns::{Cell, PlaceColumn, column_of, order_of};
@@ -24,12 +27,50 @@ use plan_trees::with_places;
 use row_values::OutOfMemory;
 use std::alloc::Global;
 
-/// The build side: its combinations in the order of their keys, and the keys beside them.
+/// The build side: its combinations in the order of their keys, the keys beside them, and where a
+/// key may begin, by what it hashes to.
 #[derive(Drop)]
 pub struct BuildSide<'a> {
     pub column: PlaceColumn<'a>,
     pub keys: Vec<Option<Cell<'a>>>,
     pub combos: Vec<Combo>,
+    hints: Vec<u32>,
+}
+
+/// How many hints there are for each key: with two, most keys that differ have one of their own.
+const HINTS_PER_KEY: usize = 2;
+
+/// A number that spreads keys, and tells most of them apart.
+fn hash_of(key: Option<Cell<'_>>) -> u64 {
+    match key {
+        Some(Cell::Number(number)) => number.unsigned_abs().wrapping_mul(0x9E37_79B9_7F4A_7C15),
+        Some(Cell::Text(text)) => {
+            let mut hash: u64 = 0;
+            for byte in text.as_str().as_bytes() {
+                hash = (hash ^ u64::from(*byte)).wrapping_mul(0x9E37_79B9_7F4A_7C15);
+            }
+            hash
+        }
+        None => 0,
+    }
+}
+
+/// The hint of a key among so many.
+fn slot_of(key: Option<Cell<'_>>, count: usize) -> usize {
+    ((hash_of(key) >> 32).wrapping_mul(count as u64) >> 32) as usize
+}
+
+/// Where each of these keys may begin.
+fn hints_of(alloc: Global, keys: &[Option<Cell<'_>>]) -> Result<Vec<u32>, OutOfMemory> {
+    let count = keys.len().saturating_mul(HINTS_PER_KEY);
+    let mut hints = Vec::new(alloc);
+    hints.resize(count, 0)?;
+    for position in (0..keys.len()).rev() {
+        if let Some(hint) = hints.get_mut(slot_of(keys[position], count)) {
+            *hint = u32::try_from(position).unwrap_or(0);
+        }
+    }
+    Ok(hints)
 }
 
 /// The keys of these combinations.
@@ -68,10 +109,12 @@ pub fn build_side<'a>(
     let mut combos = combos;
     sort_by_key(&column, &mut combos);
     let keys = keys_of(alloc, &column, combos.as_slice())?;
+    let hints = hints_of(alloc, keys.as_slice())?;
     Ok(BuildSide {
         column,
         keys,
         combos,
+        hints,
     })
 }
 
@@ -91,22 +134,89 @@ pub fn lies_up_to(one: Option<Cell<'_>>, key: Option<Cell<'_>>) -> bool
     order_of(one, key).is_le()
 }
 
-/// The combinations of the build side that have this key; none has one that isn't there.
+/// Whether there is a key at this position that doesn't lie below this one.
+fn stops_at(keys: &[Option<Cell<'_>>], position: usize, key: Option<Cell<'_>>) -> bool
+    ensures { IsTrue result → (position < length keys.now) × ((d : Option CellRead)
+        → is_below key.entry (slice_index_or keys.now position d) ≡ false) }
+{
+    match keys.get(position) {
+        Some(one) => !lies_below(*one, key),
+        None => false,
+    }
+}
+
+/// Whether the key before this position, if there is one, lies below this one.
+fn follows_below(keys: &[Option<Cell<'_>>], position: usize, key: Option<Cell<'_>>) -> bool
+    requires { position ≤ length keys.now }
+    ensures { IsTrue result → (position ≡ 0) ⊎ ((d : Option CellRead)
+        → is_below key.entry (slice_index_or keys.now (position - 1) d) ≡ true) }
+{
+    if position == 0 {
+        return true;
+    }
+    lies_below(keys[position - 1], key)
+}
+
+/// The position of the first key that doesn't lie below this one, which may be the one guessed.
+fn first_from(keys: &[Option<Cell<'_>>], guess: usize, key: Option<Cell<'_>>) -> usize
+    ensures bound { result ≤ length keys.now }
+    ensures first { IsPartitionedBy (is_below key.entry) keys.now → IsPointOf (is_below key.entry) keys.now result }
+{
+    if stops_at(keys, guess, key) {
+        if follows_below(keys, guess, key) {
+            return guess;
+        }
+    }
+    keys.partition_point(|one| lies_below(*one, key))
+}
+
+/// The position behind the last key that doesn't lie above this one, from a position on before which
+/// all lie below.
+fn end_from(keys: &[Option<Cell<'_>>], first: usize, key: Option<Cell<'_>>) -> usize
+    requires { first ≤ length keys.now }
+    ensures bound { result ≤ length keys.now }
+    ensures run { (k : ℕ) (d : Option CellRead) → first ≤ k → k < result
+        → is_up_to key.entry (slice_index_or keys.now k d) ≡ true }
+    ensures stop { (d : Option CellRead) → result < length keys.now
+        → is_up_to key.entry (slice_index_or keys.now result d) ≡ false }
+{
+    let mut end = first;
+    while end < keys.len() && lies_up_to(keys[end], key) {
+        end += 1;
+    }
+    end
+}
+
+/// The positions of the build side's combinations that have this key: from the first up to their
+/// end; none has one that isn't there.
+pub fn positions_with_key(side: &BuildSide<'_>, key: Option<Cell<'_>>) -> (usize, usize)
+    requires { IsBuildSide side.now }
+    ensures found { slice_range side.now.combos.items result.0 result.1
+        ≡ filter (λ d. compares is_eq (option_map value_read key.entry) (cell_seen side.now.column d)) side.now.combos.items }
+    ensures ordered { result.0 ≤ result.1 }
+    ensures inside { result.1 ≤ length side.now.combos.items }
+{
+    match key {
+        Some(_) => {
+            let keys = side.keys.as_slice();
+            let slot = slot_of(key, side.hints.len());
+            let guess = side.hints.get(slot).copied().unwrap_or(0);
+            let first = first_from(keys, guess as usize, key);
+            let end = end_from(keys, first, key);
+            (first, end.max(first))
+        }
+        None => (0, 0),
+    }
+}
+
+/// The combinations of the build side that have this key.
 fn with_key<'s>(side: &'s BuildSide<'_>, key: Option<Cell<'_>>) -> &'s [Combo]
     requires { IsBuildSide side.now }
     ensures { result.now
         ≡ filter (λ d. compares is_eq (option_map value_read key.entry) (cell_seen side.now.column d)) side.now.combos.items }
 {
-    let combos = side.combos.as_slice();
-    let keys = side.keys.as_slice();
-    match key {
-        Some(_) => {
-            let first = keys.partition_point(|one| lies_below(*one, key));
-            let end = keys.partition_point(|one| lies_up_to(*one, key));
-            &combos[first..end.max(first)]
-        }
-        None => &combos[..0],
-    }
+    let (first, end) = positions_with_key(side, key);
+    &side.combos[first..end]
 }
 
 /// Adds the combination with each of these of the build side, where the edges are met.

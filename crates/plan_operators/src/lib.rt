@@ -24,7 +24,7 @@ pub use access::access_rows;
 pub use columns::{Cell, ColumnCells, PlaceColumn, are_equal, column_of, order_of};
 pub use combos::{Combo, Combos};
 pub use edges::{ReadyEdge, edge_of, edges_between, end_of, meets_all};
-pub use hash_join::{BuildSide, build_side, lies_below, lies_up_to};
+pub use hash_join::{BuildSide, build_side, lies_below, lies_up_to, positions_with_key};
 pub use index_join::rows_equal;
 pub use index_scan::{index_there, table_there, test_of};
 pub use keys::{ReadyKey, ascending_keys, keys_order_of, ready_key, ready_keys, wanted_keys};

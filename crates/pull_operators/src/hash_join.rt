@@ -1,24 +1,19 @@
 //! The hash join: the inner side is built once, and each combination of the outer side looks its
 //! key up there.
 //!
-//! The build side is in the order of its keys and looked up by halving: neither many equal keys nor
-//! ones that collide cost more than what they join to.
-ghost use Rattle.std.specs.Prelude.{◌≡◌, ◌<◌, ◌≤◌, ◌++◌, ◌∷◌, [], All, IfNone, IfOk, IfSome, filter, length, slice_range};
-ghost use Rattle.std.specs.Option.{option_map, option_to_list};
-ghost use Rattle.std.specs.Ordering.{is_eq};
-ghost use Rattle.row_values.specs.Orders.{compares};
+//! The build side is that of the join that runs at once, and looked up in the same way.
+ghost use Rattle.std.specs.Prelude.{◌≡◌, ◌++◌, ◌∷◌, [], All, IfNone, IfOk, IfSome, length};
+ghost use Rattle.std.specs.Option.{option_to_list};
 ghost use Rattle.plan_trees.specs.PlaceSets.{has};
 ghost use Rattle.plan_trees.specs.PlanSpace.{IsValidHashJoin};
 ghost use Rattle.statement_meaning.specs.PartialCombinations.{Once};
-ghost use Rattle.plan_operators.specs.BuildSides.{IsBuildSide};
-ghost use Rattle.plan_operators.specs.Columns.{cell_seen, value_read};
 ghost use Rattle.plan_operators.specs.Sources.{IsSource, world_read};
 ghost use Rattle.pull_operators.specs.Pieces.{JoinsTo, hash_piece};
 ghost use Rattle.pull_operators.specs.StillToCome.{IsReadyHash, hash_from, hash_to_come, is_as_long_as};
 
 use plan_operators::{
-    BuildSide, Cell, Combo, PlaceColumn, ReadyEdge, Source, build_side, column_of, edge_of,
-    edges_between, end_of, lies_below, lies_up_to, meets_all,
+    BuildSide, Combo, PlaceColumn, ReadyEdge, Source, build_side, column_of, edge_of, edges_between,
+    end_of, meets_all, positions_with_key,
 };
 use row_values::OutOfMemory;
 use std::alloc::Global;
@@ -34,25 +29,6 @@ pub(crate) struct HashJoin<'a> {
     combo: Combo,
     next: usize,
     end: usize,
-}
-
-/// The positions of the combinations of a build side that have this key, from the first up to their
-/// end; none has one that isn't there.
-fn positions_with_key(side: &BuildSide<'_>, key: Option<Cell<'_>>) -> (usize, usize)
-    requires { IsBuildSide side.now }
-    ensures found { slice_range side.now.combos.items result.0 result.1
-        ≡ filter (λ d. compares is_eq (option_map value_read key.entry) (cell_seen side.now.column d)) side.now.combos.items }
-    ensures inside { result.1 ≤ length side.now.combos.items }
-{
-    match key {
-        Some(_) => {
-            let keys = side.keys.as_slice();
-            let first = keys.partition_point(|one| lies_below(*one, key));
-            let end = keys.partition_point(|one| lies_up_to(*one, key));
-            (first, end.max(first))
-        }
-        None => (0, 0),
-    }
 }
 
 impl<'a> HashJoin<'a> {
