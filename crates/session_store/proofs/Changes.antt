@@ -213,7 +213,8 @@ found_here (t ∷ ts) name held = by_test (bytes_eq name t.name) refl (found_her
   where
     by_test : (test : Bool) → bytes_eq name t.name ≡ test
         → find_table (put_held ts name held) name ≡ Some held.version.content
-        → find_table (cond test (table_of t.name held ∷ ts) (t ∷ put_held ts name held)) name ≡ Some held.version.content
+        → find_table (cond test (table_of t.name held ∷ ts) (t ∷ put_held ts name held)) name
+        ≡ Some held.version.content
     by_test true e later = rw e refl
     by_test false e later = rw e later
 
@@ -258,7 +259,8 @@ held_there ts place name new old held same differ content flags sound =
 -- a statement that doesn't read the table has the measure that it had
 rows_kept : (ts : List TableState) (name : List ℕ) (new : HeldTable) (places : List Place)
     → reads_table name places ≡ false
-    → map (λ place. rows_named (put_held ts name new) place.table) places ≡ map (λ place. rows_named ts place.table) places
+    → map (λ place. rows_named (put_held ts name new) place.table) places
+    ≡ map (λ place. rows_named ts place.table) places
 rows_kept ts name new [] e = refl
 rows_kept ts name new (place ∷ places) e =
     let none = neither (bytes_eq place.table name) (reads_table name places) e in

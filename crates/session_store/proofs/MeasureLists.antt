@@ -29,7 +29,8 @@ measure_at ts weights ss ms i q m are is there =
 
 -- one more statement
 pub measure_more : (ts : List TableState) (weights : Weights) (ss : List StatementState) (i : ℕ) (q : Statement)
-    (ms more : List Measure) (m : Measure) → more ≡ ms ++ m ∷ [] → option_map (λ s. s.statement) (slice_get ss i) ≡ Some q
+    (ms more : List Measure) (m : Measure) → more ≡ ms ++ m ∷ []
+    → option_map (λ s. s.statement) (slice_get ss i) ≡ Some q
     → m ≡ measure_of ts weights q → ms ≡ measures_of ts weights (take i ss)
     → more ≡ measures_of ts weights (take (i + 1) ss)
 measure_more ts weights ss i q ms more m e there is so_far =

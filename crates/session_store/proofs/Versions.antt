@@ -59,8 +59,8 @@ absent_by false e es name version h later =
       bytes_there = omega arith;
     }
 
-pub absent : (es : List (List ℕ × HeldTable)) (name : List ℕ) (version : Version) → lookup (λ k. bytes_eq name k) es ≡ None
-    → Grown (tables_in es) version 0 0 1 (put_version (tables_in es) name version)
+pub absent : (es : List (List ℕ × HeldTable)) (name : List ℕ) (version : Version)
+    → lookup (λ k. bytes_eq name k) es ≡ None → Grown (tables_in es) version 0 0 1 (put_version (tables_in es) name version)
 absent [] name version h =
     record {
       count = refl;
@@ -82,7 +82,8 @@ present_by : (test : Bool) (e : List ℕ × HeldTable) (es : List (List ℕ × H
     (table_at e ∷ put_version (tables_in es) name version))
 present_by true e es name version held h later =
     let same : e.1 ≡ held = cc in
-    let a : cells_of e.1.version.content ≡ cells_of held.version.content = ap (λ (x : HeldTable). cells_of x.version.content) same in
+    let a : cells_of e.1.version.content ≡ cells_of held.version.content =
+    ap (λ (x : HeldTable). cells_of x.version.content) same in
     let b : e.1.version.bytes ≡ held.version.bytes = ap (λ (x : HeldTable). x.version.bytes) same in
     record {
       count = omega arith;
@@ -106,7 +107,8 @@ present_by false e es name version held h later =
 
 pub present : (es : List (List ℕ × HeldTable)) (name : List ℕ) (version : Version) (held : HeldTable)
     → lookup (λ k. bytes_eq name k) es ≡ Some held →
-    Grown (tables_in es) version (cells_of held.version.content) held.version.bytes 0 (put_version (tables_in es) name version)
+    Grown (tables_in es) version (cells_of held.version.content) held.version.bytes 0
+    (put_version (tables_in es) name version)
 present [] name version held h = absurd cc
 present (e ∷ es) name version held h =
     present_by (bytes_eq name e.0) e es name version held h (present es name version held)
@@ -154,7 +156,8 @@ totals_after now es name content length_in_bytes totals cells bytes more view so
 
 -- the invariant after it
 pub kept_after : (now after : Catalog) (name : List ℕ) (content : TableValue) (bytes : ℕ) (totals : Totals)
-    (measures : List Measure) → IsCatalog [] now → after ≡ with_version now name (next_version now content bytes) → IsTable content →
+    (measures : List Measure) → IsCatalog [] now → after ≡ with_version now name (next_version now content bytes)
+    → IsTable content →
     has_other_columns (find_table now.tables name) content ≡ false
     → AreTotals totals (put_version now.tables name (next_version now content bytes)) →
     limit_passed_by [] (put_version now.tables name (next_version now content bytes)) ≡ None

@@ -1,4 +1,4 @@
-//! Instances: a prepared statement with arguments that fit its parameters, and the numbers that its plans are costed by.
+//! Instances: a prepared statement with arguments that fit its parameters, and the numbers by which its plans cost.
 ghost use Rattle.std.specs.Prelude.{◌≡◌, [], IfOk, length, slice_get};
 ghost use Rattle.std.specs.Option.{option_map_or};
 ghost use Rattle.row_values.specs.Names.{canonical_name};

@@ -3,8 +3,8 @@
 //!
 //! Each name stands once. A call that is refused or lacks memory leaves everything as it was: it makes its growths
 //! first. An instance counts nothing but its vector, since the statistics of each statement are kept. The ways in are
-//! `Store::load`, `Store::add_index`, `Store::prepare` and `Store::instance`; each of their refusals is exact and in its
-//! order. It knows no script line and no reply.
+//! `Store::load`, `Store::add_index`, `Store::prepare` and `Store::instance`; each of their refusals is exact and in
+//! its order. It knows no script line and no reply.
 #![tactic(auto)]
 
 mod faults;

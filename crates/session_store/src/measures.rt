@@ -1,7 +1,7 @@
 //! What is known of a statement over the present tables before its arguments come.
 //!
-//! A statement is wide where its tables are too large for the cost model; any other has statistics. A measure is made as
-//! its statement is prepared, and again where a table that it reads is loaded or indexed; between these it is kept.
+//! A statement is wide where its tables are too large for the cost model; any other has statistics. A measure is made
+//! as its statement is prepared, and again where a table that it reads is loaded or indexed; in between it is kept.
 ghost use Rattle.std.specs.Prelude.{◌≡◌, ◌<◌, ◌++◌, [], ◌∷◌, All, IfOk, Some, length, slice_get};
 ghost use Rattle.std.specs.Option.{option_map};
 ghost use Rattle.row_values.specs.Statements.{Statement as Bound};

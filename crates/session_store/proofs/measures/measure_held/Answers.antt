@@ -44,4 +44,5 @@ returns-in-Ok c =
     c.in-Ok.ensures.value ∙ ap₂ (λ (rs : List (List (List Value))) (ms : List ℕ).
     stats_of c.args.q.now rs ms c.args.weights) rows masks in
     ap Narrow stats ∙ ap (λ (place : Option ℕ). measure_by place
-    (stats_of c.args.q.now (rows_in (contents_of c.args.held.now)) (masks_in c.args.held.now) c.args.weights)) (sym narrow)
+    (stats_of c.args.q.now (rows_in (contents_of c.args.held.now)) (masks_in c.args.held.now) c.args.weights))
+    (sym narrow)

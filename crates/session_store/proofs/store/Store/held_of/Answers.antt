@@ -34,4 +34,5 @@ loop-place-preserved c =
     let same : c.in_ok-clone-in-Some.field-0 ≡ c.in-Some.one.now = search rules in
     more_held c.args.self.now.tables c.args.places.now c.loop-place.held.items c.push.new.self.items
     c.in_ok-clone-in-Some.field-0 c.in-Some.one.now c.loop-place.place-index c.place-item.result
-    c.in_ok-push-in-Some.ensures.items same some flags (subst IsIndexed (sym same) c.sound.ensures) c.place-item.is c.loop-place-test.true c.loop-place.invariant
+    c.in_ok-push-in-Some.ensures.items same some flags (subst IsIndexed (sym same) c.sound.ensures)
+    c.place-item.is c.loop-place-test.true c.loop-place.invariant

@@ -12,9 +12,11 @@ invariant_of-self-2 c =
     let old = subst (λ (k : Catalog). IsKept k c.self.inside.measures.items c.self.inside.cells c.self.inside.bytes)
     c.self.view_is c.self.invariant in
     let after = catalog_behind c.args.self.now c.self.inside.tables.entries c.self.inside.statements.entries
-    c.insert.new.self.entries c.self.inside.versions c.self.inside.weights c.in_ok-copy.field-0 c.args.name.now c.args.q c.self.view_is
+    c.insert.new.self.entries c.self.inside.versions c.self.inside.weights c.in_ok-copy.field-0
+    c.args.name.now c.args.q c.self.view_is
     c.in_ok-insert.ensures.entries c.in_ok-copy.ensures c.requires.free in
-    subst (λ (k : Catalog). IsKept k c.in_ok-measures.measures.items c.self.inside.cells c.self.inside.bytes) (sym after)
+    subst (λ (k : Catalog). IsKept k c.in_ok-measures.measures.items c.self.inside.cells c.self.inside.bytes)
+    (sym after)
     (record {
       cell_count = old.cell_count;
       byte_count = old.byte_count;
@@ -31,5 +33,6 @@ invariant_of-self-2 c =
 pub returns : goal.returns
 returns c =
     catalog_behind c.args.self.now c.self.inside.tables.entries c.self.inside.statements.entries
-    c.insert.new.self.entries c.self.inside.versions c.self.inside.weights c.in_ok-copy.field-0 c.args.name.now c.args.q c.self.view_is
+    c.insert.new.self.entries c.self.inside.versions c.self.inside.weights c.in_ok-copy.field-0
+    c.args.name.now c.args.q c.self.view_is
     c.in_ok-insert.ensures.entries c.in_ok-copy.ensures c.requires.free

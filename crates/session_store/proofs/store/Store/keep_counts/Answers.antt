@@ -19,7 +19,8 @@ invariant_of-self-in-Some c =
     in
     let now = subst (λ (k : Catalog). IsKept k c.self.inside.measures.items c.self.inside.cells c.self.inside.bytes)
     c.self.view_is c.self.invariant in
-    subst (λ (k : Catalog). IsKept k c.self.inside.measures.items c.self.inside.cells c.self.inside.bytes) (sym same) now
+    subst (λ (k : Catalog). IsKept k c.self.inside.measures.items c.self.inside.cells c.self.inside.bytes)
+    (sym same) now
 
 pub returns-in_ok-insert-in-Some : goal.returns-in_ok-insert-in-Some
 returns-in_ok-insert-in-Some c =

@@ -21,7 +21,8 @@ invariant_of-self-2 c =
     kept_after c.args.self.now _ c.args.name.now c.args.table c.args.bytes c.args.totals c.in_ok-measures.measures.items
     now.sound
     (after ∙ ap (λ (k : Catalog). let made : Catalog = record c.args.self.now {
-      tables = put_version c.args.self.now.tables c.args.name.now (next_version c.args.self.now c.args.table c.args.bytes);
+      tables = put_version c.args.self.now.tables c.args.name.now
+          (next_version c.args.self.now c.args.table c.args.bytes);
       versions = k.versions + 1;
     } in made) c.self.view_is) c.requires.sound c.requires.columns c.requires.totals c.requires.limits measured
 
@@ -32,7 +33,8 @@ returns c =
     c.in_ok-copy.field-0 c.args.name.now c.in_ok-held.held _ c.self.view_is c.in_ok-insert.ensures.entries
     c.in_ok-copy.ensures c.in_ok-held.ensures.put
     ∙ ap (λ (k : Catalog). let made : Catalog = record c.args.self.now {
-      tables = put_version c.args.self.now.tables c.args.name.now (next_version c.args.self.now c.args.table c.args.bytes);
+      tables = put_version c.args.self.now.tables c.args.name.now
+          (next_version c.args.self.now c.args.table c.args.bytes);
       versions = k.versions + 1;
     } in made) c.self.view_is
 

@@ -12,8 +12,8 @@ overflow_sub-result c =
     let p = g.cells_there in
     let v : c.cells_of.result ≡ cells_of c.in-Some.held.now.version.content = c.cells_of.ensures.value
     ∙ ap cells_of (c.deref.ensures ∙ c.table.ensures) in
-    let k = counted c.self.inside.tables.entries c.self.inside.statements.entries c.self.inside.versions c.self.inside.weights
-    c.self.inside.measures.items c.self.inside.cells c.self.inside.bytes c.self.invariant in
+    let k = counted c.self.inside.tables.entries c.self.inside.statements.entries c.self.inside.versions
+    c.self.inside.weights c.self.inside.measures.items c.self.inside.cells c.self.inside.bytes c.self.invariant in
     let i = k.cells_are in
     omega arith
 
@@ -22,16 +22,16 @@ overflow_sub-result-in-Some c =
     let new : Version = next_version c.args.self.now c.args.table.now c.args.bytes in
     let g = present c.self.inside.tables.entries c.args.name.now new c.in-Some.held.now (sym c.in-Some.ensures.value) in
     let p = g.bytes_there in
-    let k = counted c.self.inside.tables.entries c.self.inside.statements.entries c.self.inside.versions c.self.inside.weights
-    c.self.inside.measures.items c.self.inside.cells c.self.inside.bytes c.self.invariant in
+    let k = counted c.self.inside.tables.entries c.self.inside.statements.entries c.self.inside.versions
+    c.self.inside.weights c.self.inside.measures.items c.self.inside.cells c.self.inside.bytes c.self.invariant in
     let i = k.bytes_are in
     omega arith
 
 pub returns-in-None : goal.returns-in-None
 returns-in-None c =
     let new : Version = next_version c.args.self.now c.args.table.now c.args.bytes in
-    let k = counted c.self.inside.tables.entries c.self.inside.statements.entries c.self.inside.versions c.self.inside.weights
-    c.self.inside.measures.items c.self.inside.cells c.self.inside.bytes c.self.invariant in
+    let k = counted c.self.inside.tables.entries c.self.inside.statements.entries c.self.inside.versions
+    c.self.inside.weights c.self.inside.measures.items c.self.inside.cells c.self.inside.bytes c.self.invariant in
     let i = k.cells_are in
     let j = k.bytes_are in
     let v = c.cells_of-cells.ensures.value in
@@ -46,8 +46,8 @@ pub returns-in-Some : goal.returns-in-Some
 returns-in-Some c =
     let new : Version = next_version c.args.self.now c.args.table.now c.args.bytes in
     let g = present c.self.inside.tables.entries c.args.name.now new c.in-Some.held.now (sym c.in-Some.ensures.value) in
-    let k = counted c.self.inside.tables.entries c.self.inside.statements.entries c.self.inside.versions c.self.inside.weights
-    c.self.inside.measures.items c.self.inside.cells c.self.inside.bytes c.self.invariant in
+    let k = counted c.self.inside.tables.entries c.self.inside.statements.entries c.self.inside.versions
+    c.self.inside.weights c.self.inside.measures.items c.self.inside.cells c.self.inside.bytes c.self.invariant in
     let i = k.cells_are in
     let j = k.bytes_are in
     let ci = g.cells_there in
