@@ -1,4 +1,6 @@
 //! The worked examples over memory, each status once, and faults by shelves and sinks that fail where they are told to.
+ghost use Rattle.std.specs.Prelude.{◌≤◌};
+
 use super::*;
 use outside_io::{MemShelf, MemSink, SureShelf, SureSink};
 use row_values::OutOfMemory;
@@ -171,7 +173,9 @@ fn numbered_rows(
     header: &str,
     rows: u64,
     different: u64,
-) -> Result<String, OutOfMemory> {
+) -> Result<String, OutOfMemory>
+    requires { 1 ≤ different }
+{
     let mut text = format!(in alloc; "{header}\n")?;
     for row in 0..rows {
         write!(text, "{},{}\n", row % different + 1, row + 1)?;
