@@ -117,6 +117,46 @@ fn join(customers: &[i64], orders: &Table, items: &Table, low: i64, high: i64) -
     combos
 }
 
+/// How many customers there are with their orders and items, counted one at a time.
+fn pulled_join(customers: &[i64], orders: &Table, items: &Table, low: i64, high: i64) -> u64 {
+    let orders_of = by_key(&orders.columns[1], &orders.columns[2], low, high);
+    let items_of = by_key(&items.columns[0], &items.columns[2], low, high);
+    let mut count = 0;
+    for id in customers {
+        for order in orders_of.get(id).into_iter().flatten() {
+            for item in items_of.get(&orders.columns[0][*order as usize]).into_iter().flatten() {
+                count += u64::from(black_box(*item) < u32::MAX);
+            }
+        }
+    }
+    count
+}
+
+/// Half a million keys, and the group of each.
+fn two_groups() -> (Vec<i64>, Vec<i64>) {
+    ((1..500_001).collect(), (1..500_001).map(|k| k % 2).collect())
+}
+
+/// Pairs of equal keys, counted for each group, by a hash map or else by rows in the order of their keys.
+fn counted_pairs(keys: &[i64], groups: &[i64], by_keys: &[u32], is_hashed: bool) -> Vec<(i64, u64)> {
+    let rows_of = if is_hashed { by_key(keys, keys, i64::MIN, i64::MAX) } else { HashMap::new() };
+    let mut counts: HashMap<i64, u64> = HashMap::new();
+    for (key, group) in keys.iter().zip(groups) {
+        let found = if is_hashed {
+            rows_of.get(key).map_or(0, Vec::len)
+        } else {
+            let start = by_keys.partition_point(|row| keys[*row as usize] < *key);
+            by_keys[start..].iter().take_while(|row| keys[**row as usize] == *key).count()
+        };
+        for _ in 0..found {
+            *counts.entry(*group).or_default() += 1;
+        }
+    }
+    let mut all: Vec<(i64, u64)> = counts.into_iter().collect();
+    all.sort_unstable();
+    all
+}
+
 /// The arguments of the statement of three predicates, as the compiler can't know them.
 fn arguments() -> [i64; 4] {
     black_box([800000, 100000, 900000, 250000])
@@ -193,6 +233,16 @@ fn measured(what: &str, count: u64) -> Option<u64> {
         "join" => {
             let (customers, orders, items) = (customers(), orders(), items());
             rounds(count, || join(&customers, &orders, &items, black_box(0), black_box(999)).len() as u64)
+        }
+        "pull" => {
+            let (customers, orders, items) = (customers(), orders(), items());
+            rounds(count, || pulled_join(&customers, &orders, &items, black_box(0), black_box(999)))
+        }
+        "hash_groups" | "pull_hash_groups" | "probe_groups" | "pull_probe_groups" => {
+            let (keys, groups) = two_groups();
+            let by_keys = index(&keys);
+            let is_hashed = what.ends_with("hash_groups");
+            rounds(count, || counted_pairs(&keys, &groups, &by_keys, is_hashed).len() as u64)
         }
         "vector" => {
             let t = read(&numbers(60_000));

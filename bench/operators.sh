@@ -38,6 +38,11 @@ while read -r what rounds; do
     esac
 done <<'END'
 join 200
+pull 200
+hash_groups 5
+pull_hash_groups 5
+probe_groups 5
+pull_probe_groups 5
 vector 5000
 vector_by_index 1000000
 index 10

@@ -1,5 +1,5 @@
 //! What is measured, each as often as asked for.
-use crate::texts::{customers, groups, items, numbers, orders};
+use crate::texts::{customers, groups, items, numbers, orders, two_groups};
 use csv_tables::read_table;
 use std::alloc::Global;
 use table_index::Index;
@@ -16,6 +16,21 @@ fn runs(alloc: Global, s: &WorkedStatement, plan: &str, rounds: u64) -> Result<u
     Ok(sum)
 }
 
+/// The same one at a time, by pulling the plan.
+fn pulls(alloc: Global, s: &WorkedStatement, plan: &str, rounds: u64) -> Result<u64, WorkedFault> {
+    let mut sum: u64 = 0;
+    for _ in 0..rounds {
+        let mut pull = s.pull(alloc, plan)?;
+        for _ in 0..u32::MAX {
+            if pull.next()?.is_none() {
+                break;
+            }
+            sum = sum.wrapping_add(1);
+        }
+    }
+    Ok(sum)
+}
+
 /// The numbers of a statement's vector, so many times.
 fn vectors(s: &WorkedStatement, rounds: u64) -> u64 {
     let mut sum: u64 = 0;
@@ -27,26 +42,52 @@ fn vectors(s: &WorkedStatement, rounds: u64) -> u64 {
     sum
 }
 
-/// Customers with their orders and items, by two hash joins.
-fn join(alloc: Global, rounds: u64) -> Result<u64, WorkedFault> {
+/// Customers with their orders and items.
+fn customers_orders_items(alloc: Global) -> Result<WorkedStatement, WorkedFault> {
     let (customers, orders, items) = (customers(alloc)?, orders(alloc)?, items(alloc)?);
     let texts = [
         ("customers", customers.as_str()),
         ("orders", orders.as_str()),
         ("items", items.as_str()),
     ];
-    let s = WorkedTables::read(alloc, &texts)?.of(
+    WorkedTables::read(alloc, &texts)?.of(
         alloc,
         "SELECT c.id FROM customers c, orders o, items i WHERE c.id = o.cid AND o.id = i.oid AND o.day BETWEEN ? AND ? AND i.ship BETWEEN ? AND ?",
         "",
         &[0, 999, 0, 999],
-    )?;
-    runs(
-        alloc,
-        &s,
-        "rows(hash(hash(seq(c),seq(o),1),seq(i),2))",
-        rounds,
     )
+}
+
+const TWO_HASH_JOINS: &str = "rows(hash(hash(seq(c),seq(o),1),seq(i),2))";
+
+/// Half a million rows beside themselves by their keys, gathered into two groups.
+fn beside_itself(alloc: Global) -> Result<WorkedStatement, WorkedFault> {
+    let text = two_groups(alloc)?;
+    WorkedTables::read(alloc, &[("t", text.as_str())])?.of(
+        alloc,
+        "SELECT a.g, COUNT(*) FROM t a, t b WHERE a.k = b.k GROUP BY a.g",
+        "b.k",
+        &[],
+    )
+}
+
+const BY_HASH: &str = "hash_groups(hash(seq(a),seq(b),1))";
+
+const BY_PROBE: &str = "hash_groups(probe(seq(a),b,1))";
+
+/// The result rows of a plan, pulled or from the list of its combinations, so many times.
+fn shaped(alloc: Global, is_pulled: bool, plan: &str, rounds: u64) -> Result<u64, WorkedFault> {
+    let s = beside_itself(alloc)?;
+    let mut sum: u64 = 0;
+    for _ in 0..rounds {
+        let rows = if is_pulled {
+            s.pulled_rows(alloc, plan)?
+        } else {
+            s.rows(alloc, s.run(alloc, plan)?)?
+        };
+        sum = sum.wrapping_add(rows.len() as u64);
+    }
+    Ok(sum)
 }
 
 /// A statement of three predicates over so many rows, with indexes over these columns.
@@ -108,7 +149,22 @@ fn shape(alloc: Global, sql: Option<&str>, rounds: u64) -> Result<u64, WorkedFau
 /// What the word asks for; none where it asks for nothing.
 pub fn measured(alloc: Global, what: &str, rounds: u64) -> Result<Option<u64>, WorkedFault> {
     let sum = match what {
-        "join" => join(alloc, rounds)?,
+        "join" => runs(
+            alloc,
+            &customers_orders_items(alloc)?,
+            TWO_HASH_JOINS,
+            rounds,
+        )?,
+        "pull" => pulls(
+            alloc,
+            &customers_orders_items(alloc)?,
+            TWO_HASH_JOINS,
+            rounds,
+        )?,
+        "hash_groups" => shaped(alloc, false, BY_HASH, rounds)?,
+        "pull_hash_groups" => shaped(alloc, true, BY_HASH, rounds)?,
+        "probe_groups" => shaped(alloc, false, BY_PROBE, rounds)?,
+        "pull_probe_groups" => shaped(alloc, true, BY_PROBE, rounds)?,
         "vector" => vectors(&three_predicates(alloc, 60000, "")?, rounds),
         "vector_by_index" => vectors(&three_predicates(alloc, 60000, "t.a t.b t.c")?, rounds),
         "index" => index(alloc, rounds)?,

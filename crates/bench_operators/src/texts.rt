@@ -53,3 +53,12 @@ pub fn groups(alloc: Global) -> Result<String, OutOfMemory> {
     }
     Ok(text)
 }
+
+/// Half a million rows, numbered from 1, in two groups.
+pub fn two_groups(alloc: Global) -> Result<String, OutOfMemory> {
+    let mut text = String::from_str(alloc, "k,g\n")?;
+    for k in 1..500001u64 {
+        text.push_str(&format!(in alloc; "{k},{}\n", k % 2)?)?;
+    }
+    Ok(text)
+}
