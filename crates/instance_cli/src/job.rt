@@ -42,8 +42,10 @@ fn run_lines<F: Shelf, K: Sink>(
 ) -> Status
     requires { length lines.now < 2 ^ 50 }
     ensures { RunsLines (map (λ line. line.now) lines.now)
-        (outside_of (F.files shelf.old) (K.taken sink.old) (F.faults shelf.old) (F.misses shelf.old) (K.faults sink.old))
-        (outside_of (F.files shelf.new) (K.taken sink.new) (F.faults shelf.new) (F.misses shelf.new) (K.faults sink.new))
+        (outside_of (F.files shelf.old) (K.taken sink.old)
+        (F.faults shelf.old) (F.misses shelf.old) (K.faults sink.old))
+        (outside_of (F.files shelf.new) (K.taken sink.new)
+        (F.faults shelf.new) (F.misses shelf.new) (K.faults sink.new))
         result }
 {
     match serve_lines(alloc, lines, shelf, sink) {
@@ -56,8 +58,10 @@ fn run_lines<F: Shelf, K: Sink>(
 /// Runs a script of these bytes.
 fn run_bytes<F: Shelf, K: Sink>(alloc: Global, bytes: &[u8], shelf: &mut F, sink: &mut K) -> Status
     ensures { RunsBytes bytes.now
-        (outside_of (F.files shelf.old) (K.taken sink.old) (F.faults shelf.old) (F.misses shelf.old) (K.faults sink.old))
-        (outside_of (F.files shelf.new) (K.taken sink.new) (F.faults shelf.new) (F.misses shelf.new) (K.faults sink.new))
+        (outside_of (F.files shelf.old) (K.taken sink.old)
+        (F.faults shelf.old) (F.misses shelf.old) (K.faults sink.old))
+        (outside_of (F.files shelf.new) (K.taken sink.new)
+        (F.faults shelf.new) (F.misses shelf.new) (K.faults sink.new))
         result }
 {
     if bytes.len() > SCRIPT_LIMIT {
@@ -75,8 +79,10 @@ fn run_bytes<F: Shelf, K: Sink>(alloc: Global, bytes: &[u8], shelf: &mut F, sink
 /// Runs the script of this name.
 fn run_script<F: Shelf, K: Sink>(alloc: Global, name: &str, shelf: &mut F, sink: &mut K) -> Status
     ensures { Headline name.now
-        (outside_of (F.files shelf.old) (K.taken sink.old) (F.faults shelf.old) (F.misses shelf.old) (K.faults sink.old))
-        (outside_of (F.files shelf.new) (K.taken sink.new) (F.faults shelf.new) (F.misses shelf.new) (K.faults sink.new))
+        (outside_of (F.files shelf.old) (K.taken sink.old)
+        (F.faults shelf.old) (F.misses shelf.old) (K.faults sink.old))
+        (outside_of (F.files shelf.new) (K.taken sink.new)
+        (F.faults shelf.new) (F.misses shelf.new) (K.faults sink.new))
         result }
 {
     let mut bytes = Vec::new(alloc);
@@ -97,8 +103,10 @@ pub fn scr<F: Shelf, K: Sink>(
     sink: &mut K,
 ) -> Status
     ensures { TopPromise (meaning.mode_of (map (λ word. string_bytes word) words.now))
-        (outside_of (F.files shelf.old) (K.taken sink.old) (F.faults shelf.old) (F.misses shelf.old) (K.faults sink.old))
-        (outside_of (F.files shelf.new) (K.taken sink.new) (F.faults shelf.new) (F.misses shelf.new) (K.faults sink.new))
+        (outside_of (F.files shelf.old) (K.taken sink.old)
+        (F.faults shelf.old) (F.misses shelf.old) (K.faults sink.old))
+        (outside_of (F.files shelf.new) (K.taken sink.new)
+        (F.faults shelf.new) (F.misses shelf.new) (K.faults sink.new))
         result }
 {
     match mode_of(words) {
