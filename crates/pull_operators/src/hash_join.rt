@@ -12,8 +12,8 @@ ghost use Rattle.pull_operators.specs.Pieces.{JoinsTo, hash_piece};
 ghost use Rattle.pull_operators.specs.StillToCome.{IsReadyHash, hash_from, hash_to_come, is_as_long_as};
 
 use plan_operators::{
-    BuildSide, Combo, PlaceColumn, ReadyEdge, Source, build_side, column_of, edge_of, edges_between,
-    end_of, meets_all, positions_with_key,
+    BuildSide, Combo, PlaceColumn, ReadyEdge, Source, build_side, column_of, edge_of,
+    edges_between, end_of, meets_all, positions_with_key,
 };
 use row_values::OutOfMemory;
 use std::alloc::Global;
