@@ -27,6 +27,7 @@ use std::{env, io};
 use worked_caches::WorkedCache;
 use worked_statements::Worked;
 
+/// How many of the nearest anchors the cost check costs at most.
 const RECOSTS: u32 = 8;
 
 /// The vector of an anchor: each number is at most 100.

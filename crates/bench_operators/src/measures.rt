@@ -5,6 +5,7 @@ use std::alloc::Global;
 use table_index::Index;
 use worked_tables::{WorkedFault, WorkedStatement, WorkedTables};
 
+/// The rows of the large tables.
 const MILLION: u64 = 1000000;
 
 /// The combinations that a plan gives, so many times.
@@ -58,6 +59,7 @@ fn customers_orders_items(alloc: Global) -> Result<WorkedStatement, WorkedFault>
     )
 }
 
+/// The plan of the three tables: the customers, then their orders, then the items of these.
 const TWO_HASH_JOINS: &str = "rows(hash(hash(seq(c),seq(o),1),seq(i),2))";
 
 /// Half a million rows beside themselves by their keys, gathered into two groups.
@@ -71,8 +73,10 @@ fn beside_itself(alloc: Global) -> Result<WorkedStatement, WorkedFault> {
     )
 }
 
+/// The plan of a table beside itself by a hash join.
 const BY_HASH: &str = "hash_groups(hash(seq(a),seq(b),1))";
 
+/// The same by the index of the second one.
 const BY_PROBE: &str = "hash_groups(probe(seq(a),b,1))";
 
 /// The result rows of a plan, pulled or from the list of its combinations, so many times.
