@@ -1,9 +1,10 @@
 -- A statement keeps no more combinations than the product of its tables' rows.
-use Rattle.std.proofs.Common.{ℕ, zero, suc, ◌≡◌, ◌≤◌, ◌+◌, ◌*◌, ◌^◌, ◌∙◌, max, Bool, true, false, cond, List, [], ◌∷◌, ◌++◌}
+use Rattle.std.proofs.Common.{ℕ, zero, suc, ◌≡◌, ◌≤◌, ◌+◌, ◌*◌, ◌^◌, ◌∙◌, max, List, [], ◌∷◌}
 use Rattle.std.proofs.Common.{length, map, ap, sym, refl, arith, length-append, one-mul, pow-suc}
-use Rattle.std.specs.List.{filter, flat_map}
+use Rattle.std.specs.List.{flat_map}
 use Rattle.std.proofs.Math.Nat.{mul-le-mul, pow-le-pow_right, pow-zero}
 use Rattle.std.proofs.lemmas.List.{length-map}
+use Rattle.std.proofs.lemmas.List.Sums.{count_by-le-length, length-filter}
 use Rattle.row_values.specs.RowNumbers.{row_numbers}
 use Rattle.row_values.specs.Statements.{Statement}
 use Rattle.row_values.specs.declared.statement.Place.{Place}
@@ -13,19 +14,7 @@ use Rattle.plan_trees.specs.Statistics.{selectivities_on, weighted_size}
 use Rattle.statement_meaning.specs.Combinations.{World, combinations, keeps, kept_combinations, rows_at, sizes_from}
 use Rattle.statement_meaning.specs.Combinations.{world_of}
 use Rattle.statement_statistics.specs.Statistics.{numbered, row_count, row_counts}
-
-kept_by : {X : Type 0} (test : Bool) (x : X) (xs ys : List X) → length xs ≤ length ys
-    → length (cond test (x ∷ xs) xs) ≤ suc (length ys)
-kept_by true x xs ys h = omega (arith, h)
-kept_by false x xs ys h = omega (arith, h)
-
-filter_few : {X : Type 0} (p : X → Bool) (xs : List X) → length (filter p xs) ≤ length xs
-filter_few p [] = omega arith
-filter_few p (x ∷ xs) = kept_by (p x) x (filter p xs) xs (filter_few p xs)
-
-length-numbers : (n : ℕ) → length (row_numbers n) ≡ n
-length-numbers zero = refl
-length-numbers (suc n) = length-append (row_numbers n) (n ∷ []) ∙ (let e = length-numbers n in omega (arith, e))
+use Rattle.pull_operators.proofs.Numbers.{length_numbers}
 
 each_many : {X Y : Type 0} (f : X → List Y) (k : ℕ) → ((x : X) → length (f x) ≡ k) → (xs : List X)
     → length (flat_map f xs) ≡ length xs * k
@@ -39,7 +28,7 @@ times_rest : (n : ℕ) (ns : List ℕ) → length (combinations (n ∷ ns)) ≡ 
 times_rest n ns =
     each_many (λ row. map (λ rest. row ∷ rest) (combinations ns)) (length (combinations ns))
     (λ row. length-map (combinations ns) (λ rest. row ∷ rest)) (row_numbers n)
-    ∙ ap (λ k. k * length (combinations ns)) (length-numbers n)
+    ∙ ap (λ k. k * length (combinations ns)) (length_numbers n)
 
 -- a number is at most a power of it and of 1 at least
 below_power : (n k : ℕ) → n ≤ max 1 n ^ max 1 k
@@ -73,6 +62,7 @@ pub few : (q : Statement) (tables : List (List (List Value))) (args : List Value
     → weighted_size q.preds 0 (row_counts q tables) ≤ limit → length (kept_combinations q tables args) ≤ limit
 few q tables args limit narrow =
     let world : World = world_of q tables args in
-    let some = filter_few (keeps world) (combinations (sizes_from world 0 world.places)) in
+    let some = length-filter (keeps world) (combinations (sizes_from world 0 world.places)) in
+    let few = count_by-le-length (keeps world) (combinations (sizes_from world 0 world.places)) in
     let all = rows_few tables q.preds world (λ place. refl) 0 q.places in
-    omega (arith, some, all, narrow)
+    omega (arith, some, few, all, narrow)
