@@ -1,6 +1,6 @@
 -- A statement keeps no more combinations than the product of its tables' rows.
-use Rattle.std.proofs.Common.{ℕ, zero, suc, ◌≡◌, ◌≤◌, ◌+◌, ◌*◌, ◌^◌, ◌∙◌, max, List, [], ◌∷◌}
-use Rattle.std.proofs.Common.{length, map, ap, sym, refl, arith, length-append, one-mul, pow-suc}
+use Rattle.std.proofs.Common.{ℕ, suc, ◌≡◌, ◌≤◌, ◌+◌, ◌*◌, ◌^◌, ◌∙◌, max, List, [], ◌∷◌}
+use Rattle.std.proofs.Common.{length, map, ap, refl, arith, length-append, one-mul, pow-suc}
 use Rattle.std.specs.List.{flat_map}
 use Rattle.std.proofs.Math.Nat.{mul-le-mul, pow-le-pow_right, pow-zero}
 use Rattle.std.proofs.lemmas.List.{length-map}

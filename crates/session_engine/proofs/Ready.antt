@@ -1,5 +1,5 @@
 -- An instance of the store, with the tables and indexes of its statement, is ready to be executed.
-use Rattle.std.proofs.Common.{ℕ, ◌≡◌, ◌∙◌, List, Option, Some, Result, ap, subst, sym}
+use Rattle.std.proofs.Common.{ℕ, ◌≡◌, ◌∙◌, List, Some, Result, ap, subst, sym}
 use Rattle.std.specs.List.{slice_get}
 use Rattle.std.specs.Option.{option_map}
 use Rattle.row_values.specs.Statements.{Statement}

@@ -1,8 +1,6 @@
 -- The ends of a run, and what the rows of a plan mean.
-use Rattle.std.proofs.Common.{ℕ, ◌≡◌, ◌≤◌, ◌<◌, ◌+◌, ◌∙◌, List, [], length, map, nat_le, true, false, Option, Some, None, Result, Ok, Err}
-use Rattle.std.proofs.Common.{MatchOption, MatchResult, ap, subst, sym, refl, arith}
-use Rattle.std.specs.List.{slice_get}
-use Rattle.std.specs.Option.{option_map}
+use Rattle.std.proofs.Common.{ℕ, ◌≡◌, ◌≤◌, ◌<◌, ◌+◌, ◌∙◌, List, [], length, nat_le, true, false}
+use Rattle.std.proofs.Common.{Option, Some, None, Result, Ok, Err, MatchOption, ap, subst, sym, refl, arith}
 use Rattle.std.proofs.lemmas.Bool.Decides.{nat_tests}
 use Rattle.row_values.specs.Refusals.{refusal}
 use Rattle.row_values.specs.Sorting.{in_order}
@@ -25,12 +23,11 @@ use Rattle.result_shape.specs.declared.rows.RowsFault.TheVariants.{TooManyRows, 
 use Rattle.script_report.specs.declared.replies.Execution.{Execution}
 use Rattle.script_report.specs.declared.replies.Reply.{Reply}
 use Rattle.script_report.specs.declared.replies.Reply.TheVariants as reply
-use Rattle.catalog_model.specs.Catalogs.{Catalog, StatementState}
 use Rattle.catalog_model.specs.Instances.{Instance, instance_of}
 use Rattle.session_model.specs.Executions.{rows_refusal}
 use Rattle.session_model.specs.State.{State}
 use Rattle.session_model.specs.Step.{RunStep, InstanceStep, Refuses, present_stats, present_tables, present_vector}
-use Rattle.session_engine.specs.Executed.{Executed, HasRowsOf, Ran}
+use Rattle.session_engine.specs.Executed.{HasRowsOf, Ran}
 
 -- Rows.
 

@@ -1,7 +1,7 @@
 -- What is held put under a name: the tables and the catalog after it.
-use Rattle.std.proofs.Common.{ℕ, ◌≡◌, ◌∙◌, ◌<◌, ◌+◌, List, [], ◌∷◌, length, map, set, Option, Some, None, Bool, true}
+use Rattle.std.proofs.Common.{ℕ, ◌≡◌, ◌∙◌, List, [], ◌∷◌, length, map, set, Option, Some, None, Bool, true}
 use Rattle.std.proofs.Common.{false, not, ◌&&◌, ◌||◌, cond, Result, Ok, Err}
-use Rattle.std.proofs.Common.{IfOk, ap, ap₂, refl, subst, suc, sym}
+use Rattle.std.proofs.Common.{IfOk, IfSome, ap, ap₂, refl, subst, suc, sym}
 use Rattle.std.specs.Map.{lookup}
 use Rattle.std.specs.Option.{option_map_or}
 use Rattle.std.specs.Str.{bytes_eq}
@@ -52,6 +52,17 @@ catalog_put now es es' ss versions versions' weights key name held after view ma
     ap (λ (ts : List TableState). let k : Catalog =
     record { tables = ts; statements = statements_in ss; versions = versions'; weights = weights } in k) tables
     ∙ ap (λ (k : Catalog). let made : Catalog = record k { tables = after; versions = versions' } in made) view
+
+-- the catalog after what is held under a name was put again with no difference that the catalog shows
+pub catalog_kept : (now : Catalog) (es es' : List (List ℕ × HeldTable)) (ss : List (List ℕ × Statement))
+    (versions : ℕ) (weights : Weights) (key name : List ℕ) (old : Option HeldTable) (held : HeldTable)
+    → catalog_in es ss versions weights ≡ now → es' ≡ insert_entry bytes_eq es key held → key ≡ name
+    → old ≡ Some held → IfSome old (λ h. put_held now.tables name h ≡ now.tables)
+    → catalog_in es' ss versions weights ≡ now
+catalog_kept now es es' ss versions weights key name old held view made same found put =
+    catalog_put now es es' ss versions versions weights key name held now.tables view made same
+    (subst (λ (o : Option HeldTable). IfSome o (λ h. put_held now.tables name h ≡ now.tables)) found put)
+    ∙ ap (λ (k : Catalog). let made : Catalog = record now { versions = k.versions } in made) view
 
 -- A new table, a new version of one, and a column indexed.
 

@@ -1,5 +1,5 @@
 -- The indexes of a table that is held, and those of a statement's tables.
-use Rattle.std.proofs.Common.{ℕ, zero, suc, ◌≡◌, ◌∙◌, ◌+◌, ◌<◌, ◌≤◌, ◌*◌, ◌⊎◌, inl, inr, List, [], ◌∷◌, ◌++◌, Bool}
+use Rattle.std.proofs.Common.{ℕ, zero, suc, ◌≡◌, ◌∙◌, ◌+◌, ◌<◌, ◌*◌, ◌⊎◌, inl, inr, List, [], ◌∷◌, ◌++◌, Bool}
 use Rattle.std.proofs.Common.{true, false, Option}
 use Rattle.std.proofs.Common.{Some, None, All, IfSome, is_some, length, map, set, drop, take, slice_get, slice_index_or}
 use Rattle.std.proofs.Common.{ap, ap₂, refl, sym, subst}
@@ -19,7 +19,7 @@ use Rattle.row_values.specs.declared.statement.Place.{Place}
 use Rattle.csv_tables.specs.StatementTables.{AreTablesOf}
 use Rattle.csv_tables.specs.Tables.{TableValue}
 use Rattle.table_index.specs.Indexes.{IndexValue, IsBuilt}
-use Rattle.table_index.specs.StatementIndexes.{AreIndexesOf, entries_by_place, index_at, indexes_in, mask_of, masks_of}
+use Rattle.table_index.specs.StatementIndexes.{AreIndexesOf, entries_by_place, indexes_in, mask_of, masks_of}
 use Rattle.table_index.proofs.Entries.{masks_map}
 use Rattle.selectivity_counts.specs.Kept.{distinct_counts}
 use Rattle.catalog_model.specs.Catalogs.{Version, mask_of_flags}

@@ -1,5 +1,5 @@
 -- The tables of a statement's places as they are found: their rows, their columns and their indexes.
-use Rattle.std.proofs.Common.{ℕ, ◌≡◌, ◌∙◌, ◌+◌, ◌<◌, length, slice_index_or, take, List, [], ◌∷◌, ◌++◌, Bool, Option}
+use Rattle.std.proofs.Common.{ℕ, ◌≡◌, ◌∙◌, ◌+◌, ◌<◌, length, slice_index_or, take, List, [], ◌∷◌, ◌++◌, Option}
 use Rattle.std.proofs.Common.{Some, All, map, ap, ap₂, get_or, sym, refl, subst}
 use Rattle.std.specs.Option.{option_map, option_map_or}
 use Rattle.std.proofs.lemmas.List.Elements.{All-head, All-push, All-tail}

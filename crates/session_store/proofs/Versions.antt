@@ -3,7 +3,6 @@ use Rattle.std.proofs.Common.{◌<◌, ℕ, ◌≡◌, ◌≤◌, ◌∙◌, ◌
 use Rattle.std.proofs.Common.{true, false, arith, subst}
 use Rattle.std.specs.Map.{lookup}
 use Rattle.std.specs.Str.{bytes_eq}
-use Rattle.indexmap.specs.IndexMap.{insert_entry}
 use Rattle.row_values.specs.Statements.{Statement}
 use Rattle.row_values.specs.declared.columns.Column.{Column}
 use Rattle.csv_tables.specs.Tables.{IsTable, TableValue}

@@ -1,4 +1,4 @@
-use Rattle.std.proofs.Common.{◌≡◌, ◌∙◌, ◌+◌, ◌<◌, ◌++◌, ◌∷◌, [], List, Option, length, length-append, ap, arith, sym}
+use Rattle.std.proofs.Common.{◌∙◌, ◌<◌, ◌∷◌, [], List, Option, length, length-append, ap, arith}
 use Rattle.std.specs.declared.alloc.Global.{Global}
 use Rattle.std.specs.declared.rc.Rc.{Rc}
 use Rattle.table_index.specs.Indexes.{IndexValue}

@@ -4,14 +4,12 @@ use Rattle.std.specs.declared.rc.Rc.{Rc}
 use Rattle.row_values.specs.declared.values.Value.{Value}
 use Rattle.csv_tables.specs.StatementTables.{rows_in, tables_in}
 use Rattle.csv_tables.specs.Tables.{TableValue}
-use Rattle.plan_trees.specs.Statistics.{Statistics}
 use Rattle.statement_statistics.specs.Statistics.{first_wide, stats_of}
 use Rattle.table_index.specs.Indexes.{IndexValue}
 use Rattle.table_index.specs.StatementIndexes.{indexes_in, masks_of}
 use Rattle.selectivity_counts.specs.Built.{AreBuilt}
 use Rattle.session_store.specs.Kept.{contents_of, entries_of, masks_in}
 use Rattle.session_store.specs.Measures.{measure_by}
-use Rattle.session_store.specs.declared.measures.Measure.{Measure}
 use Rattle.session_store.specs.declared.measures.Measure.TheVariants.{Narrow}
 use Rattle.session_store.proofs.HeldIndexes.{held_are_indexes, held_masks}
 use Rattle.session_store.proofs.measures.measure_held.Goals as goal

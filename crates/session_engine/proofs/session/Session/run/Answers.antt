@@ -1,4 +1,4 @@
-use Rattle.std.proofs.Common.{ℕ, ◌≡◌, ◌∙◌, List, Option, ap, sym, subst}
+use Rattle.std.proofs.Common.{◌≡◌, List, Option, sym, subst}
 use Rattle.std.specs.declared.rc.Rc.{Rc}
 use Rattle.std.specs.declared.alloc.Global.{Global}
 use Rattle.row_values.specs.Statements.{Statement}
@@ -6,7 +6,6 @@ use Rattle.csv_tables.specs.StatementTables.{AreTablesOf, rows_in, tables_in}
 use Rattle.csv_tables.specs.Tables.{TableValue}
 use Rattle.table_index.specs.Indexes.{IndexValue}
 use Rattle.table_index.specs.StatementIndexes.{AreIndexesOf, indexes_in, masks_of}
-use Rattle.catalog_model.specs.Catalogs.{masks_now, tables_of}
 use Rattle.statement_statistics.specs.Statistics.{row_counts}
 use Rattle.session_engine.proofs.Ready.{is_told, masks_told, rows_told}
 use Rattle.session_engine.proofs.session.Session.run.Goals as goal

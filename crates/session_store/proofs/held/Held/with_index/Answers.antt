@@ -4,8 +4,8 @@ use Rattle.std.specs.declared.rc.Rc.{Rc}
 use Rattle.csv_tables.specs.Tables.{TableValue}
 use Rattle.table_index.specs.Indexes.{IndexValue, IsBuilt}
 use Rattle.table_index.specs.StatementIndexes.{indexes_in}
-use Rattle.session_store.specs.Kept.{HeldTable, IsIndexed, flags_of}
-use Rattle.session_store.proofs.HeldIndexes.{counted_alike, set_again, set_flags, set_sound}
+use Rattle.session_store.specs.Kept.{HeldTable, IsIndexed}
+use Rattle.session_store.proofs.HeldIndexes.{counted_alike, set_flags, set_sound}
 use Rattle.session_store.proofs.held.Held.with_index.Goals as goal
 
 pub invariant_of-result : goal.invariant_of-result

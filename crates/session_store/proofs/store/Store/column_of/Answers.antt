@@ -1,4 +1,4 @@
-use Rattle.std.proofs.Common.{ℕ, ◌≡◌, ◌∙◌, ◌<◌, List, Option, Some, None, Err, length, ap, subst, sym}
+use Rattle.std.proofs.Common.{◌≡◌, ◌∙◌, ◌<◌, List, Some, None, Err, length, ap, subst, sym}
 use Rattle.std.specs.Option.{option_map}
 use Rattle.row_values.specs.Names.{canonical_name}
 use Rattle.row_values.specs.declared.columns.Column.{Column}

@@ -1,4 +1,4 @@
-use Rattle.std.proofs.Common.{◌≡◌, ◌≤◌, ◌∙◌, length, ap, sym, arith}
+use Rattle.std.proofs.Common.{◌≤◌, ◌∙◌, length, ap, sym, arith}
 use Rattle.catalog_model.specs.Catalogs.{Catalog}
 use Rattle.session_store.specs.Kept.{statements_in}
 use Rattle.session_store.proofs.Entries.{length-statements_in}

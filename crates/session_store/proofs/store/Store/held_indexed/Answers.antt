@@ -1,8 +1,8 @@
-use Rattle.std.proofs.Common.{◌≡◌, ◌∙◌, ◌<◌, List, Option, Some, None, length, ap, sym, subst}
+use Rattle.std.proofs.Common.{◌≡◌, ◌∙◌, ◌<◌, Some, None, length, ap, sym, subst}
 use Rattle.std.specs.Option.{option_map}
 use Rattle.csv_tables.specs.Tables.{TableValue}
-use Rattle.catalog_model.specs.Catalogs.{Catalog, TableState, find_table, put_index}
-use Rattle.session_store.specs.Kept.{HeldTable, put_held, tables_in}
+use Rattle.catalog_model.specs.Catalogs.{Catalog, find_table, put_index}
+use Rattle.session_store.specs.Kept.{HeldTable, put_held}
 use Rattle.session_store.proofs.Changes.{index_put, ok_both}
 use Rattle.session_store.proofs.Entries.{found_table}
 use Rattle.session_store.proofs.store.Store.held_indexed.Goals as goal

@@ -3,7 +3,7 @@ use Rattle.std.specs.Option.{option_map}
 use Rattle.csv_tables.specs.Tables.{TableValue}
 use Rattle.catalog_model.specs.Catalogs.{Catalog, find_table, flags_named}
 use Rattle.catalog_model.specs.Sound.{IsLoaded}
-use Rattle.session_store.specs.Kept.{AreHeld, HeldTable, IsIndexed, flags_of}
+use Rattle.session_store.specs.Kept.{HeldTable, IsIndexed, flags_of}
 use Rattle.session_store.proofs.Entries.{found_flags, found_table}
 use Rattle.session_store.proofs.PresentTables.{more_held}
 use Rattle.session_store.proofs.store.Store.held_of.Goals as goal

@@ -1,11 +1,9 @@
-use Rattle.std.proofs.Common.{◌≡◌, ◌∙◌, List, Option, Some, All, map, ap, sym, subst}
+use Rattle.std.proofs.Common.{◌≡◌, ◌∙◌, List, All, ap, sym, subst}
 use Rattle.row_values.specs.Statements.{Statement}
 use Rattle.row_values.specs.declared.statement.Place.{Place}
 use Rattle.csv_tables.specs.StatementTables.{AreTablesOf}
 use Rattle.csv_tables.specs.Tables.{TableValue}
-use Rattle.table_index.specs.Indexes.{IndexValue}
-use Rattle.table_index.specs.StatementIndexes.{AreIndexesOf, indexes_in, masks_of}
-use Rattle.catalog_model.specs.Catalogs.{ArePresent}
+use Rattle.table_index.specs.StatementIndexes.{AreIndexesOf, indexes_in}
 use Rattle.catalog_model.specs.Sound.{IsLoaded}
 use Rattle.session_store.specs.Kept.{AreHeld, contents_of, entries_of}
 use Rattle.session_store.proofs.HeldIndexes.{held_are_indexes, held_masks}

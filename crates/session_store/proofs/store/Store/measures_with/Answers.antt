@@ -1,4 +1,4 @@
-use Rattle.std.proofs.Common.{◌≡◌, ◌<◌, ◌∙◌, length, arith}
+use Rattle.std.proofs.Common.{◌<◌, length, arith}
 use Rattle.session_store.specs.Kept.{put_held}
 use Rattle.session_store.proofs.MeasureLists.{measure_more, statement_there}
 use Rattle.session_store.proofs.store.Store.measures_with.Goals as goal

@@ -1,12 +1,11 @@
-use Rattle.std.proofs.Common.{ℕ, ◌≡◌, ◌∙◌, List, Option, Some, length, false, ap, sym, subst}
+use Rattle.std.proofs.Common.{ℕ, ◌≡◌, ◌∙◌, Option, Some, ap, sym, subst}
 use Rattle.std.specs.Option.{option_map}
-use Rattle.row_values.specs.declared.columns.Column.{Column}
 use Rattle.csv_tables.specs.Tables.{TableValue}
-use Rattle.catalog_model.specs.Catalogs.{Catalog, TableState, Version, find_table, put_version, next_version}
+use Rattle.catalog_model.specs.Catalogs.{Catalog, Version, find_table, put_version, next_version}
 use Rattle.catalog_model.specs.Loading.{has_other_columns}
-use Rattle.session_store.specs.Kept.{HeldTable, flags_of, put_held, tables_in, unindexed}
+use Rattle.session_store.specs.Kept.{HeldTable, put_held, tables_in, unindexed}
 use Rattle.session_store.proofs.Changes.{first_put, next_put, ok_both, ok_then, same_width}
-use Rattle.session_store.proofs.Entries.{found_table, none_of}
+use Rattle.session_store.proofs.Entries.{found_table}
 use Rattle.session_store.proofs.store.Store.next_held.Goals as goal
 
 pub next-requires : goal.next-requires

@@ -1,8 +1,8 @@
-use Rattle.std.proofs.Common.{◌≡◌, ◌+◌, ◌∙◌, [], All, List, ap, refl, subst, sym}
-use Rattle.catalog_model.specs.Catalogs.{Catalog, StatementState, TableState, put_version, next_version, with_version}
+use Rattle.std.proofs.Common.{◌+◌, ◌∙◌, [], All, List, ap, refl, subst, sym}
+use Rattle.catalog_model.specs.Catalogs.{Catalog, StatementState, TableState, put_version, next_version}
 use Rattle.catalog_model.specs.Sound.{IsCatalog, IsLoaded}
 use Rattle.catalog_model.proofs.Loads.{kept}
-use Rattle.session_store.specs.Kept.{IsKept, catalog_in}
+use Rattle.session_store.specs.Kept.{IsKept}
 use Rattle.session_store.specs.Measures.{measures_of}
 use Rattle.session_store.proofs.Changes.{catalog_put}
 use Rattle.session_store.proofs.Versions.{kept_after}

@@ -1,9 +1,9 @@
-use Rattle.std.proofs.Common.{◌≡◌, ◌∙◌, [], All, List, ap, refl, subst, sym}
-use Rattle.catalog_model.specs.Catalogs.{Catalog, StatementState, TableState, Version, put_index, with_index}
+use Rattle.std.proofs.Common.{◌∙◌, [], All, List, ap, subst, sym}
+use Rattle.catalog_model.specs.Catalogs.{Catalog, StatementState, TableState, Version, put_index}
 use Rattle.catalog_model.specs.Held.{bytes_held, cells_held}
 use Rattle.catalog_model.specs.Sound.{IsCatalog, IsLoaded}
 use Rattle.catalog_model.proofs.Indexings.{indexed, same_versions}
-use Rattle.session_store.specs.Kept.{IsKept, catalog_in}
+use Rattle.session_store.specs.Kept.{IsKept}
 use Rattle.session_store.specs.Measures.{measures_of}
 use Rattle.session_store.proofs.Changes.{catalog_put}
 use Rattle.session_store.proofs.store.Store.put_index.Goals as goal

@@ -1,11 +1,10 @@
-use Rattle.std.proofs.Common.{◌≡◌, ◌∙◌, List, Some, All, map, ap, sym, subst}
+use Rattle.std.proofs.Common.{◌∙◌, List, All, ap, sym, subst}
 use Rattle.row_values.specs.Statements.{Statement}
 use Rattle.row_values.specs.declared.statement.Place.{Place}
-use Rattle.csv_tables.specs.StatementTables.{AreTablesOf, rows_in, tables_in}
-use Rattle.csv_tables.specs.Tables.{TableValue}
+use Rattle.csv_tables.specs.StatementTables.{tables_in}
 use Rattle.catalog_model.specs.Catalogs.{ArePresent}
 use Rattle.catalog_model.specs.Sound.{IsLoaded}
-use Rattle.session_store.specs.Kept.{AreHeld, HeldTable, contents_of}
+use Rattle.session_store.specs.Kept.{AreHeld, contents_of}
 use Rattle.session_store.proofs.PresentTables.{columns_told, held_present, rows_told, same_statement}
 use Rattle.session_store.proofs.store.Store.tables_of.Goals as goal
 

@@ -3,13 +3,13 @@ use Rattle.std.specs.declared.alloc.Global.{Global}
 use Rattle.std.specs.declared.rc.Rc.{Rc}
 use Rattle.row_values.specs.declared.statement.Place.{Place}
 use Rattle.row_values.specs.declared.values.Value.{Value}
-use Rattle.csv_tables.specs.StatementTables.{AreTablesOf, rows_in, tables_in}
+use Rattle.csv_tables.specs.StatementTables.{rows_in, tables_in}
 use Rattle.csv_tables.specs.Tables.{TableValue}
 use Rattle.statement_meaning.specs.Vectors.{vector_of}
 use Rattle.table_index.specs.Indexes.{IndexValue}
 use Rattle.table_index.specs.StatementIndexes.{indexes_in}
 use Rattle.selectivity_counts.specs.Built.{AreBuilt}
-use Rattle.session_store.specs.Kept.{AreHeld, HeldTable, contents_of, entries_of}
+use Rattle.session_store.specs.Kept.{AreHeld, contents_of, entries_of}
 use Rattle.session_store.proofs.HeldIndexes.{held_are_indexes}
 use Rattle.session_store.proofs.PresentTables.{columns_told, held_present, rows_told}
 use Rattle.session_store.proofs.store.Store.vector.Goals as goal
