@@ -6,3 +6,5 @@ pub mod Measures
 pub mod Names
 pub mod Preparations
 pub mod Versions
+pub mod Numbers
+pub mod Unread

@@ -1,5 +1,5 @@
 -- The statement of an instance is sound, and so are its statistics and its vector.
-use Rattle.std.proofs.Common.{ℕ, ◌≡◌, ◌≤◌, ◌^◌, List, [], ◌∷◌, length, map, cond, Bool, true, false, Option, Some, None}
+use Rattle.std.proofs.Common.{◌∙◌, ℕ, ◌≡◌, ◌≤◌, ◌^◌, List, [], ◌∷◌, length, map, cond, Bool, true, false, Option, Some, None}
 use Rattle.std.proofs.Common.{Result, Ok, Err, All, ap, refl, sym, subst, arith}
 use Rattle.std.specs.Option.{option_map_or}
 use Rattle.std.specs.Str.{bytes_eq}
@@ -101,3 +101,13 @@ measured held catalog name args instance sound h =
       vector = sound_vector q tables (masks_now catalog.tables q) catalog.weights args good;
     } in
     subst (IsMeasured catalog) found.2.instance_is here
+
+-- an instance is of the statement of that name, with the arguments that were given
+pub statement_found : (catalog : Catalog) (name : List ℕ) (args : List Value) (instance : Instance)
+    → instance_of catalog name args ≡ Ok instance
+    → (find_statement catalog.statements name ≡ Some instance.statement) × (args ≡ instance.args)
+unfolding instance_of
+statement_found catalog name args instance h =
+    let found = allowed_in catalog.tables (find_statement catalog.statements name) name args instance h in
+    let is = found.2.instance_is in
+    (found.1 ∙ ap (λ (i : Instance). Some i.statement) is, ap (λ (i : Instance). i.args) is)

@@ -19,7 +19,7 @@ pub same_bytes : (a b : List ℕ) → bytes_eq a b ≡ true → a ≡ b
 same_bytes a b h = (bytes_eq-Decides a b).0 h
 
 -- a table with a new version
-abbrev renewed : TableState → Version → TableState
+abbrev pub renewed : TableState → Version → TableState
 renewed t version = record t { now = version }
 
 -- Names of tables.

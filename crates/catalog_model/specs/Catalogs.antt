@@ -1,9 +1,10 @@
 -- The catalog: tables with their versions and indexes, and prepared statements.
 use Rattle.std.specs.Prelude.{ℕ, ◌≡◌, ◌+◌, ◌*◌, List, [], ◌∷◌, ◌++◌, map, set, Bool, true, false, not, ◌&&◌, ◌||◌, Option}
-use Rattle.std.specs.Prelude.{None, Some, if◌then◌else◌}
+use Rattle.std.specs.Prelude.{None, Some, if◌then◌else◌, position}
 use Rattle.std.specs.Option.{option_map_or}
 use Rattle.std.specs.Str.{bytes_eq}
 use Rattle.row_values.specs.Statements.{Statement}
+use Rattle.row_values.specs.declared.statement.Place.{Place}
 use Rattle.row_values.specs.declared.values.Value.{Value}
 use Rattle.csv_tables.specs.Tables.{TableValue}
 use Rattle.name_binder.specs.Catalog.{Known}
@@ -85,6 +86,15 @@ masks_now tables q = map (λ place. mask_of_flags (flags_named tables place.tabl
 -- the statistics of a statement over its tables as they are loaded and indexed now
 abbrev pub stats_now : List TableState → Weights → Statement → Statistics
 stats_now tables weights q = stats_of q (tables_of tables q) (masks_now tables q) weights
+
+-- the number of the statement of this name, from 0
+abbrev pub number_of : List StatementState → List ℕ → Option ℕ
+number_of statements name = position (λ prepared. bytes_eq name prepared.name) statements
+
+-- one of the places reads the table of this name
+abbrev pub reads_table : List ℕ → List Place → Bool
+reads_table name [] = false
+reads_table name (place ∷ places) = bytes_eq place.table name || reads_table name places
 
 -- whether a statement has this name
 abbrev pub is_prepared : List ℕ → List StatementState → Bool

@@ -41,6 +41,8 @@ fn worked_examples(rt: HostRuntime) -> Result<(), Fail> {
          plan rows(seq(t))\n\
          cost 3298534883328\n\
          at 2\n\
+         by optimum tried 0\n\
+         kept plan 1 new\n\
          cert {\"kind\":\"optimum\",\"least\":\"3298534883328\",\
          \"table\":[{\"any\":\"3298534883328\",\"set\":1,\"sorted\":null}]}\n\
          row 1\n\
@@ -149,6 +151,8 @@ fn ends_of_ranges(rt: HostRuntime) -> Result<(), Fail> {
              plan rows(seq(t))\n\
              cost 5497558138880\n\
              {at}\n\
+             by optimum tried 0\n\
+             kept plan 1 new\n\
              cert {{\"kind\":\"optimum\",\"least\":\"5497558138880\",\
              \"table\":[{{\"any\":\"5497558138880\",\"set\":1,\"sorted\":null}}]}}\n\
              {rows}"
@@ -205,6 +209,8 @@ fn smallest_pair_first_is_not_least(rt: HostRuntime) -> Result<(), Fail> {
          plan rows(probe(probe(seq(a),c,2),b,3))\n\
          cost 387045272846336\n\
          at\n\
+         by optimum tried 0\n\
+         kept plan 1 new\n\
          cert {\"kind\":\"optimum\",\"least\":\"387045272846336\",\
          \"table\":[{\"any\":\"8796093022208\",\"set\":1,\"sorted\":null},\
          {\"any\":\"1125899906842624\",\"set\":2,\"sorted\":null},\
@@ -264,14 +270,16 @@ fn costs_and_rows_whatever_the_plan(rt: HostRuntime) -> Result<(), Fail> {
             "plan rows(full(t.v))\ncost 2210018371829760\nat 500\n",
         ),
         (
-            "of 50 rows the sort costs less",
-            "load t k.csv\nindex t v\nprepare q SELECT v FROM t WHERE w < ? ORDER BY v\nrun q 51\n",
-            "plan rows(sort(seq(t)))\ncost 1649267441664000\nat 50\n",
+            "of 50 rows the sort costs less, and the index's plan is kept",
+            "load t k.csv\nindex t v\nprepare q SELECT v FROM t WHERE w < ? ORDER BY v\nrun q 501\nrun q 51\n",
+            "5 ran q execution 2\nplan rows(sort(seq(t)))\ncost 1649267441664000\nat 50\n\
+             by optimum tried 1\nkept plan 1\ncert {\"kind\":\"optimum\",\"least\":\"1649267441664000\",",
         ),
         (
-            "an index makes a range cheaper",
-            "load t k.csv\nprepare q SELECT v FROM t WHERE v < ?\nindex t v\nrun q 2\n",
-            "plan rows(range(t.v,1))\ncost 13194139533312\nat 1\n",
+            "an index makes a range cheaper, and clears the cache",
+            "load t k.csv\nprepare q SELECT v FROM t WHERE v < ?\nrun q 2\nindex t v\nrun q 2\n",
+            "5 ran q execution 2\nplan rows(range(t.v,1))\ncost 13194139533312\nat 1\n\
+             by optimum tried 0\nkept plan 2 new\ncert {\"kind\":\"optimum\",\"least\":\"13194139533312\",",
         ),
         (
             "a hash join of two joins",
@@ -308,6 +316,181 @@ fn costs_and_rows_whatever_the_plan(rt: HostRuntime) -> Result<(), Fail> {
     for (what, script, want) in cases {
         let (report, _) = run_of(rt.alloc(), &files, script)?;
         assert!(rt; report.as_str().contains(want), "{what}");
+    }
+    Ok(())
+}
+
+/// A report without its row lines.
+fn without_rows(alloc: Global, report: &str) -> Result<String, OutOfMemory> {
+    let mut text = String::new(alloc);
+    for line in report.lines() {
+        if !line.starts_with("row ") {
+            write!(text, "{line}\n")?;
+        }
+    }
+    Ok(text)
+}
+
+// An index on the numbers 1 to 1000: in units of 2^40 a range of s rows costs 10 + 2s, a scan 1000.
+#[test]
+fn executions_tell_how_they_got_their_plan(rt: HostRuntime) -> Result<(), Fail> {
+    let n = counted_rows(rt.alloc(), "v", 1000, "", "")?;
+    let files = [("n.csv", n.as_str())];
+    let cases = [
+        (
+            "reuse by selectivity",
+            "run q 101\nrun q 151\n",
+            "4 ran q execution 1\n\
+             plan rows(range(t.v,1))\n\
+             cost 230897441832960\n\
+             at 100\n\
+             by optimum tried 0\n\
+             kept plan 1 new\n\
+             cert {\"kind\":\"optimum\",\"least\":\"230897441832960\",\
+             \"table\":[{\"any\":\"230897441832960\",\"set\":1,\"sorted\":null}]}\n\
+             end 100\n\
+             5 ran q execution 2\n\
+             plan rows(range(t.v,1))\n\
+             cost 340848604610560\n\
+             at 150\n\
+             by selectivity 1 plan 1\n\
+             cert {\"anchor\":1,\"kind\":\"selectivity\"}\n\
+             end 150\n",
+            Status::Done,
+        ),
+        (
+            "reuse by cost",
+            "run q 2\nrun q 5\n",
+            "4 ran q execution 1\n\
+             plan rows(range(t.v,1))\n\
+             cost 13194139533312\n\
+             at 1\n\
+             by optimum tried 0\n\
+             kept plan 1 new\n\
+             cert {\"kind\":\"optimum\",\"least\":\"13194139533312\",\
+             \"table\":[{\"any\":\"13194139533312\",\"set\":1,\"sorted\":null}]}\n\
+             end 1\n\
+             5 ran q execution 2\n\
+             plan rows(range(t.v,1))\n\
+             cost 19791209299968\n\
+             at 4\n\
+             by cost 1 plan 1 tried 1\n\
+             cert {\"anchor\":1,\"kind\":\"cost\"}\n\
+             end 4\n",
+            Status::Done,
+        ),
+        (
+            "shrinking counts",
+            "run q 101\nrun q 5\n",
+            "4 ran q execution 1\n\
+             plan rows(range(t.v,1))\n\
+             cost 230897441832960\n\
+             at 100\n\
+             by optimum tried 0\n\
+             kept plan 1 new\n\
+             cert {\"kind\":\"optimum\",\"least\":\"230897441832960\",\
+             \"table\":[{\"any\":\"230897441832960\",\"set\":1,\"sorted\":null}]}\n\
+             end 100\n\
+             5 ran q execution 2\n\
+             plan rows(range(t.v,1))\n\
+             cost 19791209299968\n\
+             at 4\n\
+             by optimum tried 1\n\
+             kept plan 1\n\
+             cert {\"kind\":\"optimum\",\"least\":\"19791209299968\",\
+             \"table\":[{\"any\":\"19791209299968\",\"set\":1,\"sorted\":null}]}\n\
+             end 4\n",
+            Status::Done,
+        ),
+        (
+            "redundant plan, show, its own cost counts",
+            "run q 101\nrun q 251\nrun q 601\nshow q\nrun q 1001\n",
+            "4 ran q execution 1\n\
+             plan rows(range(t.v,1))\n\
+             cost 230897441832960\n\
+             at 100\n\
+             by optimum tried 0\n\
+             kept plan 1 new\n\
+             cert {\"kind\":\"optimum\",\"least\":\"230897441832960\",\
+             \"table\":[{\"any\":\"230897441832960\",\"set\":1,\"sorted\":null}]}\n\
+             end 100\n\
+             5 ran q execution 2\n\
+             plan rows(range(t.v,1))\n\
+             cost 560750930165760\n\
+             at 250\n\
+             by optimum tried 1\n\
+             kept plan 1\n\
+             cert {\"kind\":\"optimum\",\"least\":\"560750930165760\",\
+             \"table\":[{\"any\":\"560750930165760\",\"set\":1,\"sorted\":null}]}\n\
+             end 250\n\
+             6 ran q execution 3\n\
+             plan rows(seq(t))\n\
+             cost 1099511627776000\n\
+             at 600\n\
+             by optimum tried 2\n\
+             kept plan 1\n\
+             cert {\"kind\":\"optimum\",\"least\":\"1099511627776000\",\
+             \"table\":[{\"any\":\"1099511627776000\",\"set\":1,\"sorted\":null}]}\n\
+             end 600\n\
+             7 shown q plans 1 anchors 3\n\
+             plan 1 uses 3 rows(range(t.v,1))\n\
+             anchor 1 plan 1 uses 1 cost 230897441832960 least 230897441832960 at 100\n\
+             anchor 2 plan 1 uses 1 cost 560750930165760 least 560750930165760 at 250\n\
+             anchor 3 plan 1 uses 1 cost 1330409069608960 least 1099511627776000 at 600\n\
+             end\n\
+             8 ran q execution 4\n\
+             plan rows(seq(t))\n\
+             cost 1099511627776000\n\
+             at 1000\n\
+             by optimum tried 3\n\
+             kept plan 2 new\n\
+             cert {\"kind\":\"optimum\",\"least\":\"1099511627776000\",\
+             \"table\":[{\"any\":\"1099511627776000\",\"set\":1,\"sorted\":null}]}\n\
+             end 1000\n",
+            Status::Done,
+        ),
+        (
+            "evict",
+            "run q 2\nevict q 1\nevict q 9\nrun q 2\n",
+            "4 ran q execution 1\n\
+             plan rows(range(t.v,1))\n\
+             cost 13194139533312\n\
+             at 1\n\
+             by optimum tried 0\n\
+             kept plan 1 new\n\
+             cert {\"kind\":\"optimum\",\"least\":\"13194139533312\",\
+             \"table\":[{\"any\":\"13194139533312\",\"set\":1,\"sorted\":null}]}\n\
+             end 1\n\
+             5 evicted q plan 1 anchors 1\n\
+             6 refused 18 unknown plan 9\n\
+             7 ran q execution 2\n\
+             plan rows(range(t.v,1))\n\
+             cost 13194139533312\n\
+             at 1\n\
+             by optimum tried 0\n\
+             kept plan 2 new\n\
+             cert {\"kind\":\"optimum\",\"least\":\"13194139533312\",\
+             \"table\":[{\"any\":\"13194139533312\",\"set\":1,\"sorted\":null}]}\n\
+             end 1\n",
+            Status::DoneRefused,
+        ),
+    ];
+    for (what, lines, replies, want) in cases {
+        let script = format!(in rt.alloc();
+            "load t n.csv\nindex t v\nprepare q SELECT v FROM t WHERE v < ?\n{lines}"
+        )?;
+        let report = format!(in rt.alloc();
+            "1 loaded t rows 1000 columns 1\n\
+             2 indexed t v\n\
+             3 prepared q tables 1 predicates 1 parameters 1\n\
+             {replies}"
+        )?;
+        let (written, status) = run_of(rt.alloc(), &files, script.as_str())?;
+        let told = without_rows(rt.alloc(), written.as_str())?;
+        assert!(rt;
+            status == want && told.as_str() == report.as_str(),
+            "{what}"
+        );
     }
     Ok(())
 }
@@ -359,13 +542,15 @@ fn tables_and_statements(rt: HostRuntime) -> Result<(), Fail> {
              plan rows(seq(t))\n\
              cost 1099511627776\n\
              at 1\n\
+             by optimum tried 0\n\
+             kept plan 1 new\n\
              cert {\"kind\":\"optimum\",\"least\":\"1099511627776\",\
              \"table\":[{\"any\":\"1099511627776\",\"set\":1,\"sorted\":null}]}\n\
              end 0\n",
             Status::Done,
         ),
         (
-            "no parameter, twice",
+            "no parameter",
             "load t t.csv\nprepare p SELECT v FROM t\nrun p\nrun p\n",
             "1 loaded t rows 3 columns 1\n\
              2 prepared p tables 1 predicates 0 parameters 0\n\
@@ -373,6 +558,8 @@ fn tables_and_statements(rt: HostRuntime) -> Result<(), Fail> {
              plan rows(seq(t))\n\
              cost 3298534883328\n\
              at\n\
+             by optimum tried 0\n\
+             kept plan 1 new\n\
              cert {\"kind\":\"optimum\",\"least\":\"3298534883328\",\
              \"table\":[{\"any\":\"3298534883328\",\"set\":1,\"sorted\":null}]}\n\
              row 1\n\
@@ -383,8 +570,8 @@ fn tables_and_statements(rt: HostRuntime) -> Result<(), Fail> {
              plan rows(seq(t))\n\
              cost 3298534883328\n\
              at\n\
-             cert {\"kind\":\"optimum\",\"least\":\"3298534883328\",\
-             \"table\":[{\"any\":\"3298534883328\",\"set\":1,\"sorted\":null}]}\n\
+             by selectivity 1 plan 1\n\
+             cert {\"anchor\":1,\"kind\":\"selectivity\"}\n\
              row 1\n\
              row 5\n\
              row 12\n\
@@ -402,6 +589,8 @@ fn tables_and_statements(rt: HostRuntime) -> Result<(), Fail> {
              plan rows(seq(o))\n\
              cost 2199023255552\n\
              at\n\
+             by optimum tried 0\n\
+             kept plan 1 new\n\
              cert {\"kind\":\"optimum\",\"least\":\"2199023255552\",\
              \"table\":[{\"any\":\"2199023255552\",\"set\":1,\"sorted\":null}]}\n\
              row \"Bad \\\"Ems\\\"\",7\n\
@@ -423,6 +612,8 @@ fn tables_and_statements(rt: HostRuntime) -> Result<(), Fail> {
              plan rows(seq(t))\n\
              cost 1099511627776\n\
              at 1\n\
+             by optimum tried 0\n\
+             kept plan 1 new\n\
              cert {\"kind\":\"optimum\",\"least\":\"1099511627776\",\
              \"table\":[{\"any\":\"1099511627776\",\"set\":1,\"sorted\":null}]}\n\
              row 7\n\
@@ -432,14 +623,14 @@ fn tables_and_statements(rt: HostRuntime) -> Result<(), Fail> {
              plan rows(seq(t))\n\
              cost 1099511627776\n\
              at 1\n\
-             cert {\"kind\":\"optimum\",\"least\":\"1099511627776\",\
-             \"table\":[{\"any\":\"1099511627776\",\"set\":1,\"sorted\":null}]}\n\
+             by selectivity 1 plan 1\n\
+             cert {\"anchor\":1,\"kind\":\"selectivity\"}\n\
              row 7\n\
              end 1\n",
             Status::DoneRefused,
         ),
         (
-            "a group, an order, four predicates, and what isn't built yet",
+            "a group, an order, four predicates, a cache shown and emptied, and what isn't built yet",
             "load t t.csv\n\
              prepare g SELECT v, COUNT(*) FROM t GROUP BY v\n\
              run g\n\
@@ -460,6 +651,8 @@ fn tables_and_statements(rt: HostRuntime) -> Result<(), Fail> {
              plan hash_groups(seq(t))\n\
              cost 9895604649984\n\
              at\n\
+             by optimum tried 0\n\
+             kept plan 1 new\n\
              cert {\"kind\":\"optimum\",\"least\":\"9895604649984\",\
              \"table\":[{\"any\":\"3298534883328\",\"set\":1,\"sorted\":\"9895604649984\"}]}\n\
              row 1,1\n\
@@ -471,6 +664,8 @@ fn tables_and_statements(rt: HostRuntime) -> Result<(), Fail> {
              plan rows(sort(seq(t)))\n\
              cost 9895604649984\n\
              at\n\
+             by optimum tried 0\n\
+             kept plan 1 new\n\
              cert {\"kind\":\"optimum\",\"least\":\"9895604649984\",\
              \"table\":[{\"any\":\"3298534883328\",\"set\":1,\"sorted\":\"9895604649984\"}]}\n\
              row 12\n\
@@ -481,8 +676,11 @@ fn tables_and_statements(rt: HostRuntime) -> Result<(), Fail> {
              7 refused 9 argument count 4\n\
              8 refused 3 unknown column w\n\
              9 refused 2 unknown table s\n\
-             10 refused 21 not built yet\n\
-             11 refused 21 not built yet\n\
+             10 shown g plans 1 anchors 1\n\
+             plan 1 uses 1 hash_groups(seq(t))\n\
+             anchor 1 plan 1 uses 1 cost 9895604649984 least 9895604649984 at\n\
+             end\n\
+             11 evicted g plan 1 anchors 1\n\
              12 refused 21 not built yet\n\
              13 refused 21 not built yet\n\
              14 refused 21 not built yet\n",
@@ -503,6 +701,8 @@ fn tables_and_statements(rt: HostRuntime) -> Result<(), Fail> {
              plan rows(seq(t))\n\
              cost 3298534883328\n\
              at 1\n\
+             by optimum tried 0\n\
+             kept plan 1 new\n\
              cert {\"kind\":\"optimum\",\"least\":\"3298534883328\",\
              \"table\":[{\"any\":\"3298534883328\",\"set\":1,\"sorted\":null}]}\n\
              row 5\n\
@@ -511,8 +711,8 @@ fn tables_and_statements(rt: HostRuntime) -> Result<(), Fail> {
              plan rows(seq(t))\n\
              cost 3298534883328\n\
              at 2\n\
-             cert {\"kind\":\"optimum\",\"least\":\"3298534883328\",\
-             \"table\":[{\"any\":\"3298534883328\",\"set\":1,\"sorted\":null}]}\n\
+             by selectivity 1 plan 1\n\
+             cert {\"anchor\":1,\"kind\":\"selectivity\"}\n\
              row 5\n\
              row 12\n\
              end 2\n\

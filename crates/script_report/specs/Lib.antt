@@ -1,4 +1,6 @@
 pub mod Canonical
 pub mod Commands
+pub mod Executions
 pub mod Parts
 pub mod Replies
+pub mod Shown

@@ -4,11 +4,14 @@ use Rattle.std.specs.Fmt.{decimal}
 use Rattle.row_values.specs.Names.{canonical_name}
 use Rattle.row_values.specs.Refusals.{refusal_words}
 use Rattle.row_values.specs.declared.refusals.Refusal.{Refusal}
-use Rattle.bound_certificate.specs.Certificates.{certificate_text}
-use Rattle.bound_certificate.specs.declared.certificates.Cert.{Cert}
 use Rattle.script_report.specs.declared.replies.Execution.{Execution}
 use Rattle.script_report.specs.declared.replies.Reply.{Reply}
-use Rattle.script_report.specs.declared.replies.Reply.TheVariants.{Loaded, Indexed, Prepared, Ran, Refused, Spent}
+use Rattle.script_report.specs.declared.replies.Reply.TheVariants.{Loaded, Indexed, Prepared, Ran, Opened, Fetched}
+use Rattle.script_report.specs.declared.replies.Reply.TheVariants.{Closed, Evicted, Shown, Refused, Spent}
+use Rattle.script_report.specs.declared.shown.ShownAnchor.{ShownAnchor}
+use Rattle.script_report.specs.declared.shown.ShownPlan.{ShownPlan}
+use Rattle.script_report.specs.Executions.{execution_lines}
+use Rattle.script_report.specs.Shown.{plans_text, anchors_text}
 
 -- `L loaded T rows R columns K`
 abbrev pub loaded_text : ℕ → List ℕ → ℕ → ℕ → List ℕ
@@ -30,47 +33,65 @@ prepared_text line name tables predicates parameters =
     ++ (decimal tables ++ (codes " predicates "
     ++ (decimal predicates ++ (codes " parameters " ++ (decimal parameters ++ codes "\n"))))))))
 
--- each number behind a space
-abbrev pub numbers_text : List ℕ → List ℕ
-numbers_text [] = []
-numbers_text (number ∷ numbers) = (codes " " ++ decimal number) ++ numbers_text numbers
-
--- `execution E`, then the plan and its cost
-abbrev pub plan_lines : Execution → List ℕ
-plan_lines e = codes " execution "
-    ++ (decimal e.number ++ (codes "\nplan " ++ (e.spelled ++ (codes "\ncost " ++ (decimal e.cost ++ codes "\nat")))))
-
--- `cert JSON`
-abbrev pub certificate_line : Cert → List ℕ
-certificate_line cert = codes "cert " ++ (certificate_text cert ++ codes "\n")
-
--- `L ran NAME execution E`, then the plan, its cost, the selectivity vector, and the certificate
-abbrev pub execution_text : ℕ → Execution → List ℕ
-execution_text line e = ((((decimal line ++ codes " ran ") ++ canonical_name e.name) ++ plan_lines e)
-    ++ (numbers_text e.at ++ codes "\n")) ++ certificate_line e.cert
-
 -- a line for each row
 abbrev pub lines_text : List (List ℕ) → List ℕ
 lines_text [] = []
 lines_text (row ∷ rows) = (row ++ codes "\n") ++ lines_text rows
 
--- `end R`
-abbrev pub end_text : ℕ → List ℕ
-end_text count = codes "end " ++ (decimal count ++ codes "\n")
-
+-- `L ran NAME execution E`, the execution, the rows, `end R`
 abbrev pub ran_text : ℕ → Execution → List (List ℕ) → List ℕ
-ran_text line e rows = (execution_text line e ++ lines_text rows) ++ end_text (length rows)
+ran_text line e rows =
+    decimal line ++ (codes " ran "
+    ++ (canonical_name e.name ++ (codes " execution "
+    ++ (decimal e.number ++ (codes "\n"
+    ++ (execution_lines e ++ (lines_text rows ++ (codes "end " ++ (decimal (length rows) ++ codes "\n")))))))))
 
--- a space and what is shown, where something is
-abbrev pub shown_text : List ℕ → List ℕ
-shown_text shown = if length shown == 0 then codes "\n" else codes " " ++ (shown ++ codes "\n")
+-- `L opened CUR NAME execution E`, the execution, `end`
+abbrev pub opened_text : ℕ → List ℕ → Execution → List ℕ
+opened_text line cursor e =
+    decimal line ++ (codes " opened "
+    ++ (canonical_name cursor ++ (codes " "
+    ++ (canonical_name e.name ++ (codes " execution "
+    ++ (decimal e.number ++ (codes "\n" ++ (execution_lines e ++ codes "end\n"))))))))
+
+-- `L fetched CUR`, the rows, `end R left M`
+abbrev pub fetched_text : ℕ → List ℕ → List (List ℕ) → ℕ → List ℕ
+fetched_text line cursor rows left =
+    decimal line ++ (codes " fetched "
+    ++ (canonical_name cursor ++ (codes "\n"
+    ++ (lines_text rows
+    ++ (codes "end " ++ (decimal (length rows) ++ (codes " left " ++ (decimal left ++ codes "\n"))))))))
+
+-- `L closed CUR`
+abbrev pub closed_text : ℕ → List ℕ → List ℕ
+closed_text line cursor = decimal line ++ (codes " closed " ++ (canonical_name cursor ++ codes "\n"))
+
+-- `L evicted NAME plan P anchors A`
+abbrev pub evicted_text : ℕ → List ℕ → ℕ → ℕ → List ℕ
+evicted_text line name plan anchors =
+    decimal line ++ (codes " evicted "
+    ++ (canonical_name name
+    ++ (codes " plan " ++ (decimal plan ++ (codes " anchors " ++ (decimal anchors ++ codes "\n"))))))
+
+-- `L shown NAME plans P anchors A`, the plans, the anchors, `end`
+abbrev pub shown_text : ℕ → List ℕ → List ShownPlan → List ShownAnchor → List ℕ
+shown_text line name plans anchors =
+    decimal line ++ (codes " shown "
+    ++ (canonical_name name
+    ++ (codes " plans " ++ (decimal (length plans)
+    ++ (codes " anchors " ++ (decimal (length anchors)
+    ++ (codes "\n" ++ (plans_text plans ++ (anchors_text anchors ++ codes "end\n")))))))))
+
+-- a space and what a refusal shows, where it shows something
+abbrev pub shown_behind : List ℕ → List ℕ
+shown_behind shown = if length shown == 0 then codes "\n" else codes " " ++ (shown ++ codes "\n")
 
 -- `L refused C WORDS SHOWN`
 abbrev pub refused_text : ℕ → Refusal → List ℕ
 refused_text line refusal =
     decimal line ++ (codes " refused "
     ++ (decimal refusal.code ++ (codes " "
-    ++ (unwrap_or (refusal_words refusal.code) [] ++ shown_text refusal.shown))))
+    ++ (unwrap_or (refusal_words refusal.code) [] ++ shown_behind refusal.shown))))
 
 -- the lines of a reply to the line of this number
 abbrev pub reply_text : ℕ → Reply → List ℕ
@@ -78,5 +99,10 @@ reply_text line (Loaded table rows columns) = loaded_text line table rows column
 reply_text line (Indexed table column) = indexed_text line table column
 reply_text line (Prepared name tables predicates parameters) = prepared_text line name tables predicates parameters
 reply_text line (Ran execution rows) = ran_text line execution rows
+reply_text line (Opened cursor execution) = opened_text line cursor execution
+reply_text line (Fetched cursor rows left) = fetched_text line cursor rows left
+reply_text line (Closed cursor) = closed_text line cursor
+reply_text line (Evicted name plan anchors) = evicted_text line name plan anchors
+reply_text line (Shown name plans anchors) = shown_text line name plans anchors
 reply_text line (Refused refusal) = refused_text line refusal
 reply_text line Spent = []

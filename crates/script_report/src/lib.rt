@@ -6,11 +6,14 @@
 #![tactic(auto)]
 
 mod commands;
+mod executions;
 pub mod laws;
 mod parts;
 mod replies;
+mod shown;
 #[cfg(test)]
 mod tests;
 
 pub use commands::{Command, FETCH_LIMIT, LineFault, read_line};
-pub use replies::{Execution, Lines, Reply, reply_text};
+pub use replies::{By, Execution, KeptNote, Lines, Reply, reply_text};
+pub use shown::{ShownAnchor, ShownAnchors, ShownPlan, ShownPlans};

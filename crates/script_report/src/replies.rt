@@ -7,7 +7,9 @@ ghost use Rattle.row_values.specs.Names.{canonical_name};
 ghost use Rattle.row_values.specs.Refusals.{refusal_words as known_words};
 ghost use Rattle.script_report.specs.Replies as report;
 
-use bound_certificate::{Cert, to_text};
+use crate::executions::push_execution;
+use crate::shown::{ShownAnchor, ShownAnchors, ShownPlan, ShownPlans, push_anchors, push_plans};
+use bound_certificate::Cert;
 use plan_trees::Vector;
 use row_values::{OutOfMemory, Refusal, Words, push_name, refusal_words};
 use std::alloc::Global;
@@ -54,8 +56,28 @@ impl Lines {
     }
 }
 
+/// How an execution got its plan: by a check that an anchor passed, or from the optimiser. `tried` counts the anchors
+/// that the cost check tested.
+#[derive(Clone, Copy, Debug)]
+pub enum By {
+    Selectivity { anchor: u64, plan: u64 },
+    Cost { anchor: u64, plan: u64, tried: u32 },
+    Optimum { tried: u32 },
+}
+
+/// What the cache kept of an execution: nothing new where a plan was reused; else an anchor with a new plan or with
+/// one that was there, each by the plan's number, or nothing.
+#[derive(Clone, Copy, Debug)]
+pub enum KeptNote {
+    Reused,
+    New(u64),
+    Old(u64),
+    Nothing,
+}
+
 /// One execution of a statement: its number over the whole script, the plan that ran and what it costs, the
-/// selectivity vector, and the certificate of that cost.
+/// selectivity vector, how it got the plan, the plan that was evicted for it with the number of its anchors, what was
+/// kept, and the certificate of its cost.
 #[derive(Debug, Drop)]
 pub struct Execution {
     pub name: Words,
@@ -63,6 +85,9 @@ pub struct Execution {
     pub spelled: Words,
     pub cost: u128,
     pub at: Vector,
+    pub by: By,
+    pub evicted: Option<(u64, u32)>,
+    pub kept: KeptNote,
     pub cert: Cert,
 }
 
@@ -88,53 +113,31 @@ pub enum Reply {
         execution: Execution,
         rows: Lines,
     },
+    Opened {
+        cursor: Words,
+        execution: Execution,
+    },
+    Fetched {
+        cursor: Words,
+        rows: Lines,
+        left: u32,
+    },
+    Closed {
+        cursor: Words,
+    },
+    Evicted {
+        name: Words,
+        plan: u64,
+        anchors: u32,
+    },
+    Shown {
+        name: Words,
+        plans: ShownPlans,
+        anchors: ShownAnchors,
+    },
     Refused(Refusal),
     /// Memory was short; no line of the report says so.
     Spent,
-}
-
-/// Adds the numbers, each behind a space.
-fn push_numbers(text: &mut String, numbers: &[u64]) -> Result<(), OutOfMemory>
-    ensures { OnOk result (string_bytes text.new ≡ string_bytes text.old ++ report.numbers_text numbers.now) }
-{
-    for number in numbers {
-        write!(text, " {number}")?;
-    }
-    Ok(())
-}
-
-/// Adds the number of an execution, and the lines of its plan and its cost.
-fn push_plan(text: &mut String, execution: &Execution) -> Result<(), OutOfMemory>
-    ensures { OnOk result (string_bytes text.new ≡ string_bytes text.old ++ report.plan_lines execution.now) }
-{
-    let number = execution.number;
-    let spelled = execution.spelled.as_str();
-    let cost = execution.cost;
-    write!(text, " execution {number}\nplan {spelled}\ncost {cost}\nat")?;
-    Ok(())
-}
-
-/// Adds the line of a certificate.
-fn push_certificate(alloc: Global, text: &mut String, cert: &Cert) -> Result<(), OutOfMemory>
-    ensures { OnOk result (string_bytes text.new ≡ string_bytes text.old ++ report.certificate_line cert.now) }
-{
-    let spelled = to_text(alloc, cert)?;
-    let spelled = spelled.as_str();
-    write!(text, "cert {spelled}\n")?;
-    Ok(())
-}
-
-/// The lines of an execution, up to its rows.
-fn execution_text(alloc: Global, line: u64, execution: &Execution) -> Result<String, OutOfMemory>
-    ensures { IfOk result (λ text. string_bytes text ≡ report.execution_text line execution.now) }
-{
-    let mut text = format!(in alloc; "{line} ran ")?;
-    push_name(&mut text, execution.name.as_str())?;
-    push_plan(&mut text, execution)?;
-    push_numbers(&mut text, execution.at.as_slice())?;
-    text.push('\n')?;
-    push_certificate(alloc, &mut text, &execution.cert)?;
-    Ok(text)
 }
 
 /// Adds the row lines.
@@ -148,14 +151,6 @@ fn push_lines(text: &mut String, rows: &[Words]) -> Result<(), OutOfMemory>
     Ok(())
 }
 
-/// The last line of a result of this many rows.
-fn end_text(alloc: Global, count: usize) -> Result<String, OutOfMemory>
-    ensures { IfOk result (λ text. string_bytes text ≡ report.end_text count) }
-{
-    let text = format!(in alloc; "end {count}\n")?;
-    Ok(text)
-}
-
 /// An execution with its rows.
 fn ran_text(
     alloc: Global,
@@ -165,9 +160,100 @@ fn ran_text(
 ) -> Result<String, OutOfMemory>
     ensures { IfOk result (λ text. string_bytes text ≡ report.ran_text line execution.now rows.now) }
 {
-    let mut text = execution_text(alloc, line, execution)?;
+    let number = execution.number;
+    let count = rows.len();
+    let mut text = format!(in alloc; "{line} ran ")?;
+    push_name(&mut text, execution.name.as_str())?;
+    write!(text, " execution {number}\n")?;
+    push_execution(alloc, &mut text, execution)?;
     push_lines(&mut text, rows)?;
-    text.push_str(end_text(alloc, rows.len())?.as_str())?;
+    write!(text, "end {count}\n")?;
+    Ok(text)
+}
+
+/// An execution behind a cursor.
+fn opened_text(
+    alloc: Global,
+    line: u64,
+    cursor: &str,
+    execution: &Execution,
+) -> Result<String, OutOfMemory>
+    ensures { IfOk result (λ text. string_bytes text ≡ report.opened_text line cursor.now execution.now) }
+{
+    let number = execution.number;
+    let mut text = format!(in alloc; "{line} opened ")?;
+    push_name(&mut text, cursor)?;
+    text.push(' ')?;
+    push_name(&mut text, execution.name.as_str())?;
+    write!(text, " execution {number}\n")?;
+    push_execution(alloc, &mut text, execution)?;
+    text.push_str("end\n")?;
+    Ok(text)
+}
+
+/// Rows of a cursor.
+fn fetched_text(
+    alloc: Global,
+    line: u64,
+    cursor: &str,
+    rows: &[Words],
+    left: u32,
+) -> Result<String, OutOfMemory>
+    ensures { IfOk result (λ text. string_bytes text ≡ report.fetched_text line cursor.now rows.now left) }
+{
+    let count = rows.len();
+    let mut text = format!(in alloc; "{line} fetched ")?;
+    push_name(&mut text, cursor)?;
+    text.push('\n')?;
+    push_lines(&mut text, rows)?;
+    write!(text, "end {count} left {left}\n")?;
+    Ok(text)
+}
+
+/// The line of a cursor's end.
+fn closed_text(alloc: Global, line: u64, cursor: &str) -> Result<String, OutOfMemory>
+    ensures { IfOk result (λ text. string_bytes text ≡ report.closed_text line cursor.now) }
+{
+    let mut text = format!(in alloc; "{line} closed ")?;
+    push_name(&mut text, cursor)?;
+    text.push('\n')?;
+    Ok(text)
+}
+
+/// The line of an eviction.
+fn evicted_text(
+    alloc: Global,
+    line: u64,
+    name: &str,
+    plan: u64,
+    anchors: u32,
+) -> Result<String, OutOfMemory>
+    ensures { IfOk result (λ text. string_bytes text ≡ report.evicted_text line name.now plan anchors) }
+{
+    let mut text = format!(in alloc; "{line} evicted ")?;
+    push_name(&mut text, name)?;
+    write!(text, " plan {plan} anchors {anchors}\n")?;
+    Ok(text)
+}
+
+/// A statement's plan cache.
+fn shown_text(
+    alloc: Global,
+    line: u64,
+    name: &str,
+    plans: &[ShownPlan],
+    anchors: &[ShownAnchor],
+) -> Result<String, OutOfMemory>
+    ensures { IfOk result (λ text. string_bytes text ≡ report.shown_text line name.now plans.now anchors.now) }
+{
+    let plan_count = plans.len();
+    let anchor_count = anchors.len();
+    let mut text = format!(in alloc; "{line} shown ")?;
+    push_name(&mut text, name)?;
+    write!(text, " plans {plan_count} anchors {anchor_count}\n")?;
+    push_plans(&mut text, plans)?;
+    push_anchors(&mut text, anchors)?;
+    text.push_str("end\n")?;
     Ok(text)
 }
 
@@ -272,6 +358,29 @@ pub fn reply_text(alloc: Global, line: u64, r: &Reply) -> Result<Words, OutOfMem
             *parameters,
         )?,
         Reply::Ran { execution, rows } => ran_text(alloc, line, execution, rows.as_slice())?,
+        Reply::Opened { cursor, execution } => {
+            opened_text(alloc, line, cursor.as_str(), execution)?
+        }
+        Reply::Fetched { cursor, rows, left } => {
+            fetched_text(alloc, line, cursor.as_str(), rows.as_slice(), *left)?
+        }
+        Reply::Closed { cursor } => closed_text(alloc, line, cursor.as_str())?,
+        Reply::Evicted {
+            name,
+            plan,
+            anchors,
+        } => evicted_text(alloc, line, name.as_str(), *plan, *anchors)?,
+        Reply::Shown {
+            name,
+            plans,
+            anchors,
+        } => shown_text(
+            alloc,
+            line,
+            name.as_str(),
+            plans.as_slice(),
+            anchors.as_slice(),
+        )?,
         Reply::Refused(refusal) => refused_text(alloc, line, refusal)?,
         Reply::Spent => String::new(alloc),
     };

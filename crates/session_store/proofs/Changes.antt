@@ -18,7 +18,8 @@ use Rattle.catalog_model.specs.Catalogs.{put_index}
 use Rattle.catalog_model.specs.Catalogs.{put_version, rows_named}
 use Rattle.catalog_model.specs.Loading.{are_same_columns, has_other_columns}
 use Rattle.catalog_model.proofs.Names.{same_bytes}
-use Rattle.session_store.specs.Kept.{HeldTable, IsHeldAt, IsIndexed, catalog_in, flags_of, put_held, reads_table}
+use Rattle.session_store.specs.Kept.{HeldTable, IsHeldAt, IsIndexed, catalog_in, flags_of, put_held}
+use Rattle.catalog_model.specs.Catalogs.{reads_table}
 use Rattle.session_store.specs.Kept.{statements_in, tables_in, unindexed}
 use Rattle.session_store.specs.Measures.{measure_of, measure_over}
 use Rattle.session_store.proofs.HeldIndexes.{no_flags}

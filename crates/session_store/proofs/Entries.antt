@@ -1,9 +1,10 @@
 -- The entries of the two maps, as lists of tables and of statements.
 use Rattle.std.proofs.Common.{is_some, ◌+◌, take, slice_index_or, ℕ, ◌≡◌, ◌∙◌, List, [], ◌∷◌, ◌++◌, length, map, Option}
 use Rattle.std.proofs.Common.{Some, None, ap, suc, zero, sym, refl, cond, Bool, true, false, All, ◌<◌, subst}
-use Rattle.std.specs.List.{slice_get}
+use Rattle.std.proofs.Common.{ap₂, nat_lt, if◌then◌else◌, not}
+use Rattle.std.specs.List.{slice_get, position, position_or_len}
 use Rattle.std.specs.Option.{option_map}
-use Rattle.std.proofs.lemmas.List.{take_more, map-append}
+use Rattle.std.proofs.lemmas.List.{length-map, take_more, map-append}
 use Rattle.std.specs.Map.{lookup}
 use Rattle.std.specs.Str.{bytes_eq}
 use Rattle.std.proofs.lemmas.List.Elements.{All-head, All-tail}
@@ -11,7 +12,7 @@ use Rattle.indexmap.specs.IndexMap.{insert_entry}
 use Rattle.row_values.specs.Statements.{Statement}
 use Rattle.row_values.specs.declared.statement.Place.{Place}
 use Rattle.csv_tables.specs.Tables.{TableValue}
-use Rattle.catalog_model.specs.Catalogs.{StatementState, find_table, find_statement, flags_named}
+use Rattle.catalog_model.specs.Catalogs.{StatementState, find_table, find_statement, flags_named, number_of}
 use Rattle.catalog_model.proofs.Names.{new_statement}
 use Rattle.session_store.specs.Kept.{HeldTable, flags_of, tables_in, statements_in}
 
@@ -70,6 +71,19 @@ pub value_at : (es : List (List ℕ × Statement)) (i : ℕ)
 value_at [] i = refl
 value_at (e ∷ es) zero = refl
 value_at (e ∷ es) (suc i) = value_at es i
+
+-- the number of a name is the position of its key
+pub number_at : (es : List (List ℕ × Statement)) (name : List ℕ)
+    → position (λ k. bytes_eq name k) (map (λ (e : List ℕ × Statement). e.0) es) ≡ number_of (statements_in es) name
+number_at es name =
+    ap₂ (λ at all. if nat_lt at all then Some at else None) (place_at es)
+    (length-map es (λ (e : List ℕ × Statement). e.0) ∙ sym (length-statements_in es))
+  where
+    place_at : (es : List (List ℕ × Statement))
+        → position_or_len (λ k. bytes_eq name k) (map (λ (e : List ℕ × Statement). e.0) es)
+        ≡ position_or_len (λ (s : StatementState). bytes_eq name s.name) (statements_in es)
+    place_at [] = refl
+    place_at (e ∷ es) = ap (λ n. if not (bytes_eq name e.0) then 1 + n else 0) (place_at es)
 
 -- what holds of each statement holds of the one of a number
 pub all_at : (P : Statement → Type 0) (ss : List StatementState) (i : ℕ) (q : Statement)

@@ -85,11 +85,6 @@ pub record AreTotals (totals : Totals) (tables : List TableState) : Type 0 where
   pub cells : totals.cells ≡ cells_held (present_versions tables)
   pub bytes : totals.bytes ≡ bytes_held (present_versions tables)
 
--- one of the places reads the table of this name
-abbrev pub reads_table : List ℕ → List Place → Bool
-reads_table name [] = false
-reads_table name (place ∷ places) = bytes_eq place.table name || reads_table name places
-
 -- The tables of a statement's places.
 
 abbrev pub contents_of : List HeldTable → List TableValue

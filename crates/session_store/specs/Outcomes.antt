@@ -8,7 +8,7 @@ use Rattle.name_binder.specs.declared.faults.BindFault.{BindFault}
 use Rattle.plan_trees.specs.Statistics.{IsSoundStats, IsSoundVector}
 use Rattle.statement_meaning.specs.Vectors.{vector_of}
 use Rattle.catalog_model.specs.Catalogs.{Catalog, Version, stats_now, tables_of, with_index, with_statement}
-use Rattle.catalog_model.specs.Catalogs.{with_version}
+use Rattle.catalog_model.specs.Catalogs.{number_of, with_version}
 use Rattle.catalog_model.specs.Faults.{bind_refusal}
 use Rattle.catalog_model.specs.Instances.{Instance}
 use Rattle.session_store.specs.declared.faults.StoreFault.{StoreFault}
@@ -70,19 +70,21 @@ IsNumber catalog q number =
     (number < length catalog.statements)
     × (option_map (λ prepared. prepared.statement) (slice_get catalog.statements number) ≡ Some q)
 
--- an instance that is told: the statement that is wanted with these arguments, by its number, its statistics over the
--- present tables, and its vector; both are sound
-pub record IsInstance (wanted : Result Instance Refusal) (catalog : Catalog) (args : List Value)
+-- an instance that is told: the statement of this name that is wanted with these arguments, by its number, its
+-- statistics over the present tables, and its vector; both are sound
+pub record IsInstance (name : List ℕ) (wanted : Result Instance Refusal) (catalog : Catalog) (args : List Value)
     (told : stored.Instance) : Type 0 where
   pub query : Statement
   pub instance_is : wanted ≡ Ok (record { statement = query; args = args })
+  pub named : number_of catalog.statements name ≡ Some told.statement
   pub number : IsNumber catalog query told.statement
   pub stats_are : told.stats ≡ stats_now catalog.tables catalog.weights query
   pub vector_is : told.at ≡ vector_of query (tables_of catalog.tables query) args
   pub sound_stats : IsSoundStats query told.stats
   pub sound_vector : IsSoundVector query told.stats told.at
 
--- an instance of the statement that is wanted with these arguments; or its refusal, or want of memory
-abbrev pub Instantiates : Result Instance Refusal → Catalog → List Value → Result stored.Instance StoreFault → Type 0
-Instantiates wanted catalog args (Ok told) = IsInstance wanted catalog args told
-Instantiates wanted catalog args (Err fault) = Says wanted fault
+-- an instance of the statement of this name that is wanted with these arguments; or its refusal, or want of memory
+abbrev pub Instantiates : List ℕ → Result Instance Refusal → Catalog → List Value → Result stored.Instance StoreFault
+    → Type 0
+Instantiates name wanted catalog args (Ok told) = IsInstance name wanted catalog args told
+Instantiates name wanted catalog args (Err fault) = Says wanted fault

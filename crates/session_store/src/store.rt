@@ -6,9 +6,10 @@ ghost use Rattle.csv_tables.specs.StatementTables.{AreTablesOf, rows_in, tables_
 ghost use Rattle.csv_tables.specs.Tables.{TableValue};
 ghost use Rattle.plan_trees.specs.Statistics.{AreWeights};
 ghost use Rattle.table_index.specs.StatementIndexes.{AreIndexesOf, indexes_in, masks_of};
-ghost use Rattle.catalog_model.specs.Catalogs.{ArePresent, empty_catalog, find_statement, masks_now, tables_of};
+ghost use Rattle.catalog_model.specs.Catalogs.{ArePresent, empty_catalog, find_statement, masks_now, number_of};
+ghost use Rattle.catalog_model.specs.Catalogs.{reads_table, tables_of};
 ghost use Rattle.catalog_model.specs.Sound.{IsLoaded};
-ghost use Rattle.session_store.specs.Kept.{AreHeld, reads_table};
+ghost use Rattle.session_store.specs.Kept.{AreHeld};
 
 use crate::held;
 use crate::held::Held;
@@ -95,6 +96,7 @@ impl Store {
             (slice_get self.now.statements number) ≡ find_statement self.now.statements name.now) }
         ensures within { IfSome result (λ number. number < length self.now.statements) }
         ensures none { IfNone result (find_statement self.now.statements name.now ≡ None) }
+        ensures number { result ≡ number_of self.now.statements name.now }
     {
         match self.statements.get_index_of(name) {
             None => None,

@@ -1,5 +1,5 @@
 use Rattle.std.proofs.Common.{◌≡◌, drop}
-use Rattle.session_store.specs.Kept.{reads_table}
+use Rattle.catalog_model.specs.Catalogs.{reads_table}
 use Rattle.session_store.proofs.store.is_read.Given as goal
 
 -- none of the places so far

@@ -1,9 +1,9 @@
 use Rattle.std.proofs.Common.{◌∙◌, ap, sym, length, ◌<◌, ◌≤◌, ◌≡◌, arith}
 use Rattle.std.specs.List.{slice_get}
 use Rattle.std.specs.Option.{option_map}
-use Rattle.catalog_model.specs.Catalogs.{Catalog, StatementState, find_statement}
+use Rattle.catalog_model.specs.Catalogs.{Catalog, StatementState, find_statement, number_of}
 use Rattle.session_store.specs.Kept.{statements_in}
-use Rattle.session_store.proofs.Entries.{found_statement, statement_at, value_at, none_of, length-statements_in}
+use Rattle.session_store.proofs.Entries.{found_statement, number_at, statement_at, value_at, none_of, length-statements_in}
 use Rattle.session_store.proofs.store.Store.find.Goals as goal
 
 pub overflow_cast-result : goal.overflow_cast-result
@@ -35,3 +35,13 @@ returns-in-Some-clause-within c =
     ∙ ap (λ (k : Catalog). length k.statements) c.self.view_is in
     let w : c.in-Some.number < length c.self.inside.statements.entries = c.in-Some.ensures.within in
     omega arith
+
+pub returns-in-None-clause-number : goal.returns-in-None-clause-number
+returns-in-None-clause-number c =
+    c.in-None.ensures.index ∙ (number_at c.self.inside.statements.entries c.args.name.now
+    ∙ ap (λ (k : Catalog). number_of k.statements c.args.name.now) c.self.view_is)
+
+pub returns-in-Some-clause-number : goal.returns-in-Some-clause-number
+returns-in-Some-clause-number c =
+    c.in-Some.ensures.index ∙ (number_at c.self.inside.statements.entries c.args.name.now
+    ∙ ap (λ (k : Catalog). number_of k.statements c.args.name.now) c.self.view_is)

@@ -59,4 +59,4 @@ returns-in_ok-clone-in-Narrow c =
     let is = fitting c.args.self.now c.args.name.now c.args.args.now c.query-q.result.now found fits narrow.0 in
     told c.args.self.now c.args.name.now c.args.args.now c.query-q.result.now _
     (subst (IsCatalog []) c.self.view_is c.self.invariant.sound) is
-    (c.in-Some.ensures.within, c.query-q.ensures.value) (copied ∙ narrow.1) c.in_ok-at-in-Narrow.ensures
+    (sym c.find.ensures.number ∙ c.in-Some.is) (c.in-Some.ensures.within, c.query-q.ensures.value) (copied ∙ narrow.1) c.in_ok-at-in-Narrow.ensures

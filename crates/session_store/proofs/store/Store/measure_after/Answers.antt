@@ -1,7 +1,7 @@
 use Rattle.std.proofs.Common.{◌≡◌, ◌∙◌, List, ap, false, rules, sym}
 use Rattle.row_values.specs.Statements.{Statement}
 use Rattle.row_values.specs.declared.statement.Place.{Place}
-use Rattle.session_store.specs.Kept.{reads_table}
+use Rattle.catalog_model.specs.Catalogs.{reads_table}
 use Rattle.session_store.proofs.Changes.{measure_kept}
 use Rattle.session_store.proofs.PresentTables.{same_statement}
 use Rattle.session_store.proofs.store.Store.measure_after.Goals as goal
