@@ -9,7 +9,7 @@ use Rattle.outside_model.specs.declared.TheConstants.{SCRIPT_LIMIT}
 use Rattle.outside_model.specs.Files.{Files, Told, up_to}
 use Rattle.outside_model.specs.Outside.{Outside}
 use Rattle.session_model.specs.Run.{IsChain, spoken_lines, report_text}
-use Rattle.instance_cli.proofs.Bounded.{bounded_along}
+use Rattle.instance_cli.proofs.Bounded.{bounded}
 use Rattle.instance_cli.specs.Bytes.{RunsBytes}
 use Rattle.instance_cli.specs.Headline.{Headline, TookNothing}
 use Rattle.instance_cli.specs.Report.{ServesLine, Starts, ReportsRun, ReportsPrefix}
@@ -72,7 +72,7 @@ run_before bytes before middle after refused f h =
       last = h.last;
       starts = starts_before before middle f h.first h.starts;
       run = run;
-      bound = bounded_along before.files h.first (spoken_lines (script_of bytes)) h.replies h.last run;
+      bound = bounded before.files h.first (spoken_lines (script_of bytes)) h.replies h.last run h.starts.state;
       ends = h.ends;
       took = subst (λ (old : Option (List ℕ)). Told old
           (λ taken. after.taken ≡ Some (taken ++ report_text (spoken_lines (script_of bytes)) h.replies))) f.taken h.took;
@@ -96,7 +96,7 @@ prefix_before bytes before middle after result f h =
       others = h.others;
       starts = starts_before before middle f h.first h.starts;
       run = run;
-      bound = bounded_along before.files h.first h.done h.replies h.middle run;
+      bound = bounded before.files h.first h.done h.replies h.middle run h.starts.state;
       ends = h.ends;
       goes_on = subst (λ (files : Option Files). IsChain (ServesLine files) h.middle h.rest h.others h.last) f.files
           h.goes_on;

@@ -11,14 +11,13 @@ use Rattle.outside_model.specs.Files.{Files, Told}
 use Rattle.outside_model.specs.Outside.{Outside}
 use Rattle.script_report.specs.Commands.{Reading, reading_of}
 use Rattle.script_report.specs.declared.replies.Reply.{Reply}
-use Rattle.plan_trees.specs.Statistics.{AreWeights}
 use Rattle.session_model.specs.Run.{Line, IsChain, is_silent, spoken_from, spoken_lines}
 use Rattle.session_model.specs.Session.{IsSession}
 use Rattle.session_model.specs.Step.{CanStep, asks_for, file_of}
 use Rattle.session_model.proofs.Chains.{keeps}
 use Rattle.session_model.proofs.Progress.{goes_on}
 use Rattle.session_model.proofs.Sessions.{first, kept}
-use Rattle.instance_cli.proofs.Bounded.{bounded_along}
+use Rattle.instance_cli.proofs.Bounded.{bounded, default_are}
 use Rattle.instance_cli.specs.Bytes.{RunsLines, RunsBytes, RunsWhole, RunsInPart, EndsBy, first_moment}
 use Rattle.instance_cli.specs.Defaults.{default_settings}
 use Rattle.instance_cli.specs.Lines.{Stops, WritesInPart}
@@ -151,16 +150,6 @@ after_cut status.BadWeights files middle rest cut session spoken h = absurd h
 
 -- Scripts.
 
-default_weights : AreWeights default_settings.weights
-default_weights = record {
-  row = record { low = omega arith; high = omega arith };
-  fetch = record { low = omega arith; high = omega arith };
-  probe = record { low = omega arith; high = omega arith };
-  hash = record { low = omega arith; high = omega arith };
-  sort = record { low = omega arith; high = omega arith };
-  out = record { low = omega arith; high = omega arith };
-}
-
 -- the whole script was run
 whole : (bytes : List ℕ) (before after : Outside) (refused : Bool) → IsScript bytes
     → RunsWhole (lines (script_of bytes)) before after refused → ReportsRun bytes before after refused
@@ -171,8 +160,8 @@ whole bytes before after refused script h = record {
   last = h.0;
   starts = record { state = refl; misses = omega arith };
   run = h.2.run;
-  bound = bounded_along before.files (first_moment before.misses) (spoken_lines (script_of bytes)) h.2.replies h.0
-      h.2.run;
+  bound = bounded before.files (first_moment before.misses) (spoken_lines (script_of bytes)) h.2.replies h.0 h.2.run
+      refl;
   ends = h.1;
   took = h.2.took;
   status = h.2.status;
@@ -184,7 +173,7 @@ cut_short : (bytes : List ℕ) (before after : Outside) (result : Status) → Is
 cut_short bytes before after result script h =
     let session : InSession h.middle =
     keeps (ServesLine before.files) InSession (serving_keeps before.files)
-    (first_moment before.misses) h.done h.replies h.middle (first default_settings default_weights) h.run in
+    (first_moment before.misses) h.done h.replies h.middle (first default_settings default_are) h.run in
     let spoken : AreSpoken h.rest =
     spoken_rest h.done h.rest (subst AreSpoken h.parts (spoken_all 1 (lines (script_of bytes)))) in
     let g = after_cut result before.files h.middle h.rest h.cut session spoken h.next in
@@ -200,7 +189,7 @@ cut_short bytes before after result script h =
       others = g.others;
       starts = record { state = refl; misses = omega arith };
       run = h.run;
-      bound = bounded_along before.files (first_moment before.misses) h.done h.replies h.middle h.run;
+      bound = bounded before.files (first_moment before.misses) h.done h.replies h.middle h.run refl;
       ends = h.ends;
       goes_on = g.run;
       cut = h.cut;

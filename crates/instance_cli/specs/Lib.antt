@@ -1,4 +1,3 @@
-pub mod Bound
 pub mod Bytes
 pub mod Defaults
 pub mod Headline

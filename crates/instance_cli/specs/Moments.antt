@@ -6,3 +6,7 @@ use Rattle.session_model.specs.State.{State}
 pub record Moment : Type 0 where
   pub state : State
   pub misses : ℕ
+
+-- the session's state then
+abbrev pub state_at : Moment → State
+state_at moment = moment.state

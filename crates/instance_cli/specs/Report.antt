@@ -11,9 +11,9 @@ use Rattle.script_report.specs.declared.replies.Reply.{Reply}
 use Rattle.session_model.specs.Run.{Line, IsChain, spoken_lines, report_text, some_refusal}
 use Rattle.session_model.specs.State.{initial_state}
 use Rattle.session_model.specs.Step.{Step, asks_for, file_of}
-use Rattle.instance_cli.specs.Bound.{AreBounded}
+use Rattle.session_bound.specs.Bound.{AreBounded}
 use Rattle.instance_cli.specs.Defaults.{default_settings}
-use Rattle.instance_cli.specs.Moments.{Moment}
+use Rattle.instance_cli.specs.Moments.{Moment, state_at}
 use Rattle.instance_cli.specs.Script.{script_of}
 use Rattle.instance_cli.specs.declared.outcome.Status.{Status}
 use Rattle.instance_cli.specs.declared.outcome.Status.TheVariants as status
@@ -64,7 +64,7 @@ pub record ReportsRun (bytes : List ℕ) (before after : Outside) (refused : Boo
   pub last : Moment
   pub starts : Starts before first
   pub run : IsChain (ServesLine before.files) first (spoken_lines (script_of bytes)) replies last
-  pub bound : AreBounded (ServesLine before.files) first (spoken_lines (script_of bytes)) replies last run
+  pub bound : AreBounded state_at (ServesLine before.files) [] first (spoken_lines (script_of bytes)) replies last run
   pub ends : last.misses ≤ after.misses
   pub took : Took before after (report_text (spoken_lines (script_of bytes)) replies)
   pub status : some_refusal replies ≡ refused
@@ -111,7 +111,7 @@ pub record ReportsPrefix (bytes : List ℕ) (before after : Outside) (result : S
   pub others : List Reply
   pub starts : Starts before first
   pub run : IsChain (ServesLine before.files) first done replies middle
-  pub bound : AreBounded (ServesLine before.files) first done replies middle run
+  pub bound : AreBounded state_at (ServesLine before.files) [] first done replies middle run
   pub ends : middle.misses ≤ after.misses
   pub goes_on : IsChain (ServesLine before.files) middle rest others last
   pub cut : List ℕ

@@ -1,14 +1,14 @@
 -- A statement that a line prepares is sound.
-use Rattle.std.proofs.Common.{ℕ, ◌≡◌, ◌==◌, Bool, true, false, List, [], ◌∷◌, codes, length, slice_index, Option, None, Some, refl, subst, if◌then◌else◌}
+use Rattle.std.proofs.Common.{ℕ, ◌≡◌, ◌==◌, Bool, true, false, List, codes, length, slice_index, Option, None, Some, refl, subst, if◌then◌else◌}
 use Rattle.std.specs.Str.{bytes_eq}
 use Rattle.sql_parser.specs.Reading.{◌>>=◌}
 use Rattle.sql_parser.specs.Spelled.{statement_of}
 use Rattle.sql_parser.specs.Statement.{IsSound, Parts}
 use Rattle.sql_parser.proofs.FunctionsAreGrammar.{spelled_only}
 use Rattle.sql_parser.proofs.ReadIsSound.{statement_good, tokens_good}
-use Rattle.script_report.specs.Commands.{Bad, Reading, Says, Silent, args_in, close_in, command_in, count_in, cursor_in, end}
-use Rattle.script_report.specs.Commands.{evict_in, fetch_in, index_in, line_in, load_in, prepare_in, reading_of, rest_of, run_in}
-use Rattle.script_report.specs.Commands.{said, show_in, skip_end_blanks}
+use Rattle.script_report.specs.Commands.{Bad, Reading, Says, Silent, args_in, command_in, count_in, end}
+use Rattle.script_report.specs.Commands.{line_in, reading_of, rest_of}
+use Rattle.script_report.specs.Commands.{said, skip_end_blanks}
 use Rattle.script_report.specs.Parts.{after_part, first_part, name_part, skip_blanks}
 use Rattle.script_report.specs.declared.commands.Command.{Command}
 use Rattle.script_report.specs.declared.commands.Command.TheVariants as command

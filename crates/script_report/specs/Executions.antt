@@ -1,6 +1,7 @@
 -- The lines of an execution: its plan, what that costs, where, and how it was chosen, kept and certified.
-use Rattle.std.specs.Prelude.{ℕ, List, [], ◌∷◌, ◌++◌, codes, Option, Some, None, ◌×◌}
+use Rattle.std.specs.Prelude.{ℕ, List, [], ◌∷◌, ◌++◌, codes, Option, Some, None}
 use Rattle.std.specs.Fmt.{decimal}
+use Rattle.row_values.specs.Names.{canonical_name}
 use Rattle.bound_certificate.specs.Certificates.{certificate_text}
 use Rattle.bound_certificate.specs.declared.certificates.Cert.{Cert}
 use Rattle.script_report.specs.declared.replies.By.{By}
@@ -54,3 +55,11 @@ execution_lines e =
     ++ (at_line e.at
     ++ (by_line e.by
     ++ (evicted_line e.evicted ++ (kept_line e.kept ++ certificate_line e.cert))))
+
+-- `NAME execution E`
+abbrev pub heading : List ℕ → ℕ → List ℕ
+heading name number = canonical_name name ++ (codes " execution " ++ (decimal number ++ codes "\n"))
+
+-- the name, the number and the lines of an execution
+unfoldable pub execution_text : Execution → List ℕ
+execution_text e = heading e.name e.number ++ execution_lines e

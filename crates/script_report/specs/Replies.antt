@@ -10,7 +10,7 @@ use Rattle.script_report.specs.declared.replies.Reply.TheVariants.{Loaded, Index
 use Rattle.script_report.specs.declared.replies.Reply.TheVariants.{Closed, Evicted, Shown, Refused, Spent}
 use Rattle.script_report.specs.declared.shown.ShownAnchor.{ShownAnchor}
 use Rattle.script_report.specs.declared.shown.ShownPlan.{ShownPlan}
-use Rattle.script_report.specs.Executions.{execution_lines}
+use Rattle.script_report.specs.Executions.{execution_text}
 use Rattle.script_report.specs.Shown.{plans_text, anchors_text}
 
 -- `L loaded T rows R columns K`
@@ -42,17 +42,13 @@ lines_text (row ∷ rows) = (row ++ codes "\n") ++ lines_text rows
 abbrev pub ran_text : ℕ → Execution → List (List ℕ) → List ℕ
 ran_text line e rows =
     decimal line ++ (codes " ran "
-    ++ (canonical_name e.name ++ (codes " execution "
-    ++ (decimal e.number ++ (codes "\n"
-    ++ (execution_lines e ++ (lines_text rows ++ (codes "end " ++ (decimal (length rows) ++ codes "\n")))))))))
+    ++ (execution_text e ++ (lines_text rows ++ (codes "end " ++ (decimal (length rows) ++ codes "\n")))))
 
 -- `L opened CUR NAME execution E`, the execution, `end`
 abbrev pub opened_text : ℕ → List ℕ → Execution → List ℕ
 opened_text line cursor e =
     decimal line ++ (codes " opened "
-    ++ (canonical_name cursor ++ (codes " "
-    ++ (canonical_name e.name ++ (codes " execution "
-    ++ (decimal e.number ++ (codes "\n" ++ (execution_lines e ++ codes "end\n"))))))))
+    ++ (canonical_name cursor ++ (codes " " ++ (execution_text e ++ codes "end\n"))))
 
 -- `L fetched CUR`, the rows, `end R left M`
 abbrev pub fetched_text : ℕ → List ℕ → List (List ℕ) → ℕ → List ℕ

@@ -6,7 +6,7 @@ ghost use Rattle.script_report.specs.Executions as report;
 
 use crate::replies::{By, Execution, KeptNote};
 use bound_certificate::{Cert, to_text};
-use row_values::OutOfMemory;
+use row_values::{OutOfMemory, push_name};
 use std::alloc::Global;
 
 /// Adds the numbers, each behind a space.
@@ -90,8 +90,8 @@ fn push_certificate(alloc: Global, text: &mut String, cert: &Cert) -> Result<(),
     Ok(())
 }
 
-/// Adds the lines of an execution.
-pub fn push_execution(
+/// Adds the lines of an execution, from its plan to its certificate.
+fn push_execution_lines(
     alloc: Global,
     text: &mut String,
     execution: &Execution,
@@ -104,5 +104,28 @@ pub fn push_execution(
     push_evicted(text, execution.evicted)?;
     push_kept(text, execution.kept)?;
     push_certificate(alloc, text, &execution.cert)?;
+    Ok(())
+}
+
+/// Adds a statement's name and the number of an execution, the rest of a line.
+fn push_heading(text: &mut String, name: &str, number: u64) -> Result<(), OutOfMemory>
+    ensures { OnOk result (string_bytes text.new ≡ string_bytes text.old ++ report.heading name.now number) }
+{
+    push_name(text, name)?;
+    write!(text, " execution {number}\n")?;
+    Ok(())
+}
+
+/// Adds an execution: its name and number, the rest of a line, and its lines.
+#[tactic(auto, unfolding(crate::specs::Executions::execution_text))]
+pub fn push_execution(
+    alloc: Global,
+    text: &mut String,
+    execution: &Execution,
+) -> Result<(), OutOfMemory>
+    ensures { OnOk result (string_bytes text.new ≡ string_bytes text.old ++ report.execution_text execution.now) }
+{
+    push_heading(text, execution.name.as_str(), execution.number)?;
+    push_execution_lines(alloc, text, execution)?;
     Ok(())
 }

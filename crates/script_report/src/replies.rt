@@ -160,11 +160,8 @@ fn ran_text(
 ) -> Result<String, OutOfMemory>
     ensures { IfOk result (λ text. string_bytes text ≡ report.ran_text line execution.now rows.now) }
 {
-    let number = execution.number;
     let count = rows.len();
     let mut text = format!(in alloc; "{line} ran ")?;
-    push_name(&mut text, execution.name.as_str())?;
-    write!(text, " execution {number}\n")?;
     push_execution(alloc, &mut text, execution)?;
     push_lines(&mut text, rows)?;
     write!(text, "end {count}\n")?;
@@ -180,12 +177,9 @@ fn opened_text(
 ) -> Result<String, OutOfMemory>
     ensures { IfOk result (λ text. string_bytes text ≡ report.opened_text line cursor.now execution.now) }
 {
-    let number = execution.number;
     let mut text = format!(in alloc; "{line} opened ")?;
     push_name(&mut text, cursor)?;
     text.push(' ')?;
-    push_name(&mut text, execution.name.as_str())?;
-    write!(text, " execution {number}\n")?;
     push_execution(alloc, &mut text, execution)?;
     text.push_str("end\n")?;
     Ok(text)

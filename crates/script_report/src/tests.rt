@@ -1,5 +1,8 @@
 //! Lines against the commands that they give, and replies against their lines of the report.
-use crate::{Command, Execution, LineFault, Lines, Reply, read_line, reply_text};
+use crate::{
+    By, Command, Execution, KeptNote, LineFault, Lines, Reply, ShownAnchor, ShownAnchors,
+    ShownPlan, ShownPlans, read_line, reply_text,
+};
 use bound_certificate::Cert;
 use plan_costs::{Cell, Potentials};
 use plan_trees::Vector;
@@ -186,24 +189,38 @@ fn words(alloc: Global, text: &str) -> Result<Words, OutOfMemory> {
 }
 
 /// An optimum of one place, without a plan in a wanted order.
-fn optimum(alloc: Global) -> Result<Cert, OutOfMemory> {
+fn optimum(alloc: Global, least: u128) -> Result<Cert, OutOfMemory> {
     let mut cells = Vec::new(alloc);
     cells.push(Cell {
-        any: 5,
+        any: least,
         sorted: None,
     })?;
-    Ok(Cert::Optimum(Potentials::of(cells, 5)))
+    Ok(Cert::Optimum(Potentials::of(cells, least)))
 }
 
-/// The second execution of `q`, of this selectivity vector.
-fn execution(alloc: Global, at: &[u64]) -> Result<Execution, Fail> {
+fn vector(at: &[u64]) -> Result<Vector, Fail> {
+    Ok(Vector::of(at).ok_or("too many numbers")?)
+}
+
+/// The second execution of a statement, at this selectivity vector.
+fn execution(
+    alloc: Global,
+    at: &[u64],
+    by: By,
+    evicted: Option<(u64, u32)>,
+    kept: KeptNote,
+    cert: Cert,
+) -> Result<Execution, Fail> {
     Ok(Execution {
         name: words(alloc, "my q")?,
         number: 2,
         spelled: words(alloc, "rows(seq(t))")?,
         cost: 340282366920938463463374607431768211455,
-        at: Vector::of(at).ok_or("too many numbers")?,
-        cert: optimum(alloc)?,
+        at: vector(at)?,
+        by,
+        evicted,
+        kept,
+        cert,
     })
 }
 
@@ -246,10 +263,130 @@ fn prepared(alloc: Global) -> Result<Reply, OutOfMemory> {
     })
 }
 
-fn ran(alloc: Global, at: &[u64], rows: &[&str]) -> Result<Reply, Fail> {
+/// An execution without anchors before it, whose plan is kept.
+fn ran_first(alloc: Global) -> Result<Reply, Fail> {
+    let execution = Execution {
+        name: words(alloc, "q")?,
+        number: 1,
+        spelled: words(alloc, "rows(seq(t))")?,
+        cost: 3298534883328,
+        at: vector(&[2])?,
+        by: By::Optimum { tried: 0 },
+        evicted: None,
+        kept: KeptNote::New(1),
+        cert: optimum(alloc, 3298534883328)?,
+    };
     Ok(Reply::Ran {
-        execution: execution(alloc, at)?,
+        execution,
+        rows: lines(alloc, &["row 1", "row 5"])?,
+    })
+}
+
+/// An execution that reuses a plan by the first check.
+fn ran_reusing(alloc: Global) -> Result<Reply, Fail> {
+    let by = By::Selectivity { anchor: 1, plan: 7 };
+    let cert = Cert::Selectivity(1);
+    Ok(Reply::Ran {
+        execution: execution(alloc, &[], by, None, KeptNote::Reused, cert)?,
+        rows: lines(alloc, &[])?,
+    })
+}
+
+/// An execution whose plan takes the place of one that is evicted.
+fn ran_evicting(alloc: Global) -> Result<Reply, Fail> {
+    let by = By::Optimum { tried: 8 };
+    let kept = KeptNote::Old(18446744073709551615);
+    let at = [1, 18446744073709551615];
+    let cert = optimum(alloc, 5)?;
+    Ok(Reply::Ran {
+        execution: execution(alloc, &at, by, Some((3, 4096)), kept, cert)?,
+        rows: lines(alloc, &["row \"x\""])?,
+    })
+}
+
+/// An execution of which nothing is kept.
+fn ran_unkept(alloc: Global) -> Result<Reply, Fail> {
+    let by = By::Optimum { tried: 1 };
+    let cert = optimum(alloc, 5)?;
+    Ok(Reply::Ran {
+        execution: execution(alloc, &[2], by, None, KeptNote::Nothing, cert)?,
+        rows: lines(alloc, &[])?,
+    })
+}
+
+/// A cursor whose execution reuses a plan by the second check.
+fn opened(alloc: Global) -> Result<Reply, Fail> {
+    let by = By::Cost {
+        anchor: 1,
+        plan: 7,
+        tried: 3,
+    };
+    let cert = Cert::Cost(1);
+    Ok(Reply::Opened {
+        cursor: words(alloc, "my c")?,
+        execution: execution(alloc, &[2], by, None, KeptNote::Reused, cert)?,
+    })
+}
+
+fn fetched(alloc: Global, rows: &[&str], left: u32) -> Result<Reply, OutOfMemory> {
+    Ok(Reply::Fetched {
+        cursor: words(alloc, "c")?,
         rows: lines(alloc, rows)?,
+        left,
+    })
+}
+
+fn closed(alloc: Global) -> Result<Reply, OutOfMemory> {
+    Ok(Reply::Closed {
+        cursor: words(alloc, "c")?,
+    })
+}
+
+fn evicted(alloc: Global) -> Result<Reply, OutOfMemory> {
+    Ok(Reply::Evicted {
+        name: words(alloc, "q")?,
+        plan: 1,
+        anchors: 1,
+    })
+}
+
+/// A cache of one plan with two anchors.
+fn shown(alloc: Global) -> Result<Reply, Fail> {
+    let mut plans = ShownPlans::new(alloc);
+    plans.push(ShownPlan {
+        number: 1,
+        uses: 3,
+        text: words(alloc, "rows(range(t.v,1))")?,
+    })?;
+    let mut anchors = ShownAnchors::new(alloc);
+    anchors.push(ShownAnchor {
+        execution: 1,
+        plan: 1,
+        uses: 1,
+        cost: 230897441832960,
+        least: 230897441832960,
+        at: vector(&[100, 1])?,
+    })?;
+    anchors.push(ShownAnchor {
+        execution: 3,
+        plan: 1,
+        uses: 2,
+        cost: 9,
+        least: 8,
+        at: vector(&[7, 2])?,
+    })?;
+    Ok(Reply::Shown {
+        name: words(alloc, "q")?,
+        plans,
+        anchors,
+    })
+}
+
+fn shown_empty(alloc: Global) -> Result<Reply, OutOfMemory> {
+    Ok(Reply::Shown {
+        name: words(alloc, "my q")?,
+        plans: ShownPlans::new(alloc),
+        anchors: ShownAnchors::new(alloc),
     })
 }
 
@@ -260,8 +397,17 @@ fn replies_are_spelled(rt: HostRuntime) -> Result<(), Fail> {
     replies.push(loaded(alloc)?)?;
     replies.push(indexed(alloc)?)?;
     replies.push(prepared(alloc)?)?;
-    replies.push(ran(alloc, &[], &[])?)?;
-    replies.push(ran(alloc, &[1, 18446744073709551615], &["row 1", "row \"x\""])?)?;
+    replies.push(ran_first(alloc)?)?;
+    replies.push(ran_reusing(alloc)?)?;
+    replies.push(ran_evicting(alloc)?)?;
+    replies.push(ran_unkept(alloc)?)?;
+    replies.push(opened(alloc)?)?;
+    replies.push(fetched(alloc, &["row 5"], 0)?)?;
+    replies.push(fetched(alloc, &[], 2)?)?;
+    replies.push(closed(alloc)?)?;
+    replies.push(evicted(alloc)?)?;
+    replies.push(shown(alloc)?)?;
+    replies.push(shown_empty(alloc)?)?;
     replies.push(refused(alloc, SYNTAX, "")?)?;
     replies.push(refused(alloc, UNKNOWN_TABLE, "\"order id\"")?)?;
     replies.push(Reply::Spent)?;
@@ -279,22 +425,83 @@ fn replies_are_spelled(rt: HostRuntime) -> Result<(), Fail> {
             "7 prepared q tables 5 predicates 3 parameters 4\n",
         ),
         (
-            "an execution with no selectivities and no rows",
+            "a first execution, whose plan is kept as a new one",
+            "7 ran q execution 1\n\
+             plan rows(seq(t))\n\
+             cost 3298534883328\n\
+             at 2\n\
+             by optimum tried 0\n\
+             kept plan 1 new\n\
+             cert {\"kind\":\"optimum\",\"least\":\"3298534883328\",\"table\":[{\"any\":\"3298534883328\",\"set\":1,\"sorted\":null}]}\n\
+             row 1\n\
+             row 5\n\
+             end 2\n",
+        ),
+        (
+            "an execution by selectivity, with no selectivities and no rows",
             "7 ran \"my q\" execution 2\n\
              plan rows(seq(t))\n\
              cost 340282366920938463463374607431768211455\n\
              at\n\
-             cert {\"kind\":\"optimum\",\"least\":\"5\",\"table\":[{\"any\":\"5\",\"set\":1,\"sorted\":null}]}\n\
+             by selectivity 1 plan 7\n\
+             cert {\"anchor\":1,\"kind\":\"selectivity\"}\n\
              end 0\n",
         ),
         (
-            "an execution with two selectivities and two rows",
+            "an execution that evicts, and adds an anchor to a plan that is there",
             "7 ran \"my q\" execution 2\n\
              plan rows(seq(t))\n\
              cost 340282366920938463463374607431768211455\n\
              at 1 18446744073709551615\n\
+             by optimum tried 8\n\
+             evicted plan 3 anchors 4096\n\
+             kept plan 18446744073709551615\n\
              cert {\"kind\":\"optimum\",\"least\":\"5\",\"table\":[{\"any\":\"5\",\"set\":1,\"sorted\":null}]}\n\
-             row 1\nrow \"x\"\nend 2\n",
+             row \"x\"\n\
+             end 1\n",
+        ),
+        (
+            "an execution of which nothing is kept",
+            "7 ran \"my q\" execution 2\n\
+             plan rows(seq(t))\n\
+             cost 340282366920938463463374607431768211455\n\
+             at 2\n\
+             by optimum tried 1\n\
+             kept nothing\n\
+             cert {\"kind\":\"optimum\",\"least\":\"5\",\"table\":[{\"any\":\"5\",\"set\":1,\"sorted\":null}]}\n\
+             end 0\n",
+        ),
+        (
+            "a cursor with a name in quotes, by cost",
+            "7 opened \"my c\" \"my q\" execution 2\n\
+             plan rows(seq(t))\n\
+             cost 340282366920938463463374607431768211455\n\
+             at 2\n\
+             by cost 1 plan 7 tried 3\n\
+             cert {\"anchor\":1,\"kind\":\"cost\"}\n\
+             end\n",
+        ),
+        (
+            "the last row of a cursor",
+            "7 fetched c\nrow 5\nend 1 left 0\n",
+        ),
+        ("no row yet", "7 fetched c\nend 0 left 2\n"),
+        ("a closed cursor", "7 closed c\n"),
+        (
+            "an evicted plan with its anchor",
+            "7 evicted q plan 1 anchors 1\n",
+        ),
+        (
+            "a cache of one plan and two anchors",
+            "7 shown q plans 1 anchors 2\n\
+             plan 1 uses 3 rows(range(t.v,1))\n\
+             anchor 1 plan 1 uses 1 cost 230897441832960 least 230897441832960 at 100 1\n\
+             anchor 3 plan 1 uses 2 cost 9 least 8 at 7 2\n\
+             end\n",
+        ),
+        (
+            "an empty cache",
+            "7 shown \"my q\" plans 0 anchors 0\nend\n",
         ),
         ("a refusal that shows nothing", "7 refused 1 syntax\n"),
         (

@@ -16,23 +16,23 @@ same_query : (p q : Statement) → Some p ≡ Some q → p ≡ q
 same_query p q e = cc
 
 -- the statement of the instance's number is the one that was wanted
-pub its_query : (wanted : Result Instance Refusal) (catalog : Catalog) (args : List Value) (told : stored.Instance)
-    (q : Statement) → (i : IsInstance wanted catalog args told)
+pub its_query : (name : List ℕ) (wanted : Result Instance Refusal) (catalog : Catalog) (args : List Value) (told : stored.Instance)
+    (q : Statement) → (i : IsInstance name wanted catalog args told)
     → option_map (λ (s : StatementState). s.statement) (slice_get catalog.statements told.statement) ≡ Some q
     → i.query ≡ q
-its_query wanted catalog args told q i e = same_query i.query q (sym i.number.1 ∙ e)
+its_query name wanted catalog args told q i e = same_query i.query q (sym i.number.1 ∙ e)
 
 pub record IsTold (catalog : Catalog) (args : List Value) (told : stored.Instance) (q : Statement) : Type 0 where
   pub stats : IsSoundStats q told.stats
   pub vector : IsSoundVector q told.stats told.at
   pub stats_are : told.stats ≡ stats_now catalog.tables catalog.weights q
 
-pub is_told : (wanted : Result Instance Refusal) (catalog : Catalog) (args : List Value) (told : stored.Instance)
-    (q : Statement) → IsInstance wanted catalog args told
+pub is_told : (name : List ℕ) (wanted : Result Instance Refusal) (catalog : Catalog) (args : List Value) (told : stored.Instance)
+    (q : Statement) → IsInstance name wanted catalog args told
     → option_map (λ (s : StatementState). s.statement) (slice_get catalog.statements told.statement) ≡ Some q
     → IsTold catalog args told q
-is_told wanted catalog args told q i e =
-    subst (IsTold catalog args told) (its_query wanted catalog args told q i e)
+is_told name wanted catalog args told q i e =
+    subst (IsTold catalog args told) (its_query name wanted catalog args told q i e)
     (record { stats = i.sound_stats; vector = i.sound_vector; stats_are = i.stats_are })
 
 pub rows_told : (catalog : Catalog) (told : stored.Instance) (q : Statement) (tables : List (List (List Value)))

@@ -1,6 +1,6 @@
 -- The ends of a run, and what the rows of a plan mean.
 use Rattle.std.proofs.Common.{ℕ, ◌≡◌, ◌≤◌, ◌<◌, ◌+◌, ◌∙◌, List, [], length, nat_le, true, false}
-use Rattle.std.proofs.Common.{Option, Some, None, Result, Ok, Err, MatchOption, ap, subst, sym, refl, arith}
+use Rattle.std.proofs.Common.{set, Option, Some, None, Result, Ok, Err, MatchOption, ap, subst, sym, refl, arith}
 use Rattle.std.proofs.lemmas.Bool.Decides.{nat_tests}
 use Rattle.row_values.specs.Refusals.{refusal}
 use Rattle.row_values.specs.Sorting.{in_order}
@@ -23,9 +23,11 @@ use Rattle.result_shape.specs.declared.rows.RowsFault.TheVariants.{TooManyRows, 
 use Rattle.script_report.specs.declared.replies.Execution.{Execution}
 use Rattle.script_report.specs.declared.replies.Reply.{Reply}
 use Rattle.script_report.specs.declared.replies.Reply.TheVariants as reply
+use Rattle.cache_model.specs.Caches.{CacheState}
+use Rattle.catalog_model.specs.Catalogs.{number_of}
 use Rattle.catalog_model.specs.Instances.{Instance, instance_of}
-use Rattle.session_model.specs.Executions.{rows_refusal}
-use Rattle.session_model.specs.State.{State}
+use Rattle.session_model.specs.Executions.{IsExecution, rows_refusal}
+use Rattle.session_model.specs.State.{State, cache_at}
 use Rattle.session_model.specs.Step.{RunStep, InstanceStep, Refuses, present_stats, present_tables, present_vector}
 use Rattle.session_engine.specs.Executed.{HasRowsOf, Ran}
 
@@ -106,14 +108,29 @@ too_large old name args instance answer e n says =
 executes_by : (o : Option Refusal) (P : Type 0) (Q : Refusal → Type 0) → o ≡ None → P → MatchOption o P Q
 executes_by o P Q e p = rw e p
 
-pub executed_run : (old new : State) (name : List ℕ) (args : List Value) (instance : Instance) (e : Execution)
-    (lines : List (List ℕ)) → instance_of old.catalog name args ≡ Ok instance →
-    Ran (old.executions + 1) name instance.statement (present_tables old instance.statement) instance.args
-    (present_stats old instance.statement) (present_vector old instance.statement instance.args) e lines
-    → new ≡ record old { executions = old.executions + 1 } → RunStep old name args (reply.Ran e lines) new
-executed_run old new name args instance e lines i ran n =
+pub executed_run : (old new : State) (name : List ℕ) (args : List Value) (instance : Instance) (number : ℕ)
+    (before after : CacheState) (e : Execution) (lines : List (List ℕ)) → instance_of old.catalog name args ≡ Ok instance
+    → number_of old.catalog.statements name ≡ Some number → cache_at old.caches number ≡ before →
+    Ran old.settings (old.executions + 1) name instance.statement (present_tables old instance.statement) instance.args
+    (present_stats old instance.statement) (present_vector old instance.statement instance.args) before e lines after
+    → new ≡ record old { caches = set old.caches number after; executions = old.executions + 1 }
+    → RunStep old name args (reply.Ran e lines) new
+executed_run old new name args instance number before after e lines i is there ran n =
+    let shows = subst (λ (c : CacheState). IsExecution old.settings (old.executions + 1) name instance.statement
+    (present_stats old instance.statement) (present_vector old instance.statement instance.args) c e after) (sym there)
+    ran.shows in
     of_instance old new name args instance (reply.Ran e lines) i
     (executes_by
     (rows_refusal (length (meaning_of instance.statement (present_tables old instance.statement) instance.args))) _ _
     (small _ ran.few)
-    (record { execution = e; shows = ran.shows; says = ap (reply.Ran e) ran.rows; counts = n }))
+    (record {
+      step = record {
+        number = number;
+        its_number = is;
+        execution = e;
+        cache = after;
+        shows = shows;
+        keeps = n;
+      };
+      says = ap (reply.Ran e) ran.rows;
+    }))

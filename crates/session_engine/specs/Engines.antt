@@ -1,8 +1,12 @@
 -- What an engine is: a session, and counts.
-use Rattle.std.specs.Prelude.{ℕ, ◌≡◌, ◌⊎◌, ◌+◌, ◌*◌, ◌^◌, ◌≤◌, ◌<◌, Bool, true, false}
+use Rattle.std.specs.Prelude.{ℕ, ◌≡◌, ◌⊎◌, ◌+◌, ◌*◌, ◌^◌, ◌≤◌, ◌<◌, Bool, true, false, List, Option, Some, None}
 use Rattle.row_values.specs.declared.refusals.TheConstants.{TOO_MANY_ROWS}
 use Rattle.script_report.specs.declared.replies.Reply.{Reply}
-use Rattle.script_report.specs.declared.replies.Reply.TheVariants.{Loaded, Indexed, Prepared, Ran, Refused, Spent}
+use Rattle.script_report.specs.declared.replies.By.{By}
+use Rattle.script_report.specs.declared.replies.By.TheVariants as by
+use Rattle.script_report.specs.declared.replies.Execution.{Execution}
+use Rattle.script_report.specs.declared.replies.Reply.TheVariants.{Closed, Evicted, Fetched, Indexed, Loaded, Opened}
+use Rattle.script_report.specs.declared.replies.Reply.TheVariants.{Prepared, Ran, Refused, Shown, Spent}
 use Rattle.session_model.specs.State.{State}
 
 -- the session's state, the steps so far, the calls of a planner, and whether memory was short
@@ -40,14 +44,35 @@ is_spent (Loaded table rows columns) = false
 is_spent (Indexed table column) = false
 is_spent (Prepared name tables predicates parameters) = false
 is_spent (Ran execution rows) = false
+is_spent (Opened cursor execution) = false
+is_spent (Fetched cursor rows left) = false
+is_spent (Closed cursor) = false
+is_spent (Evicted name plan anchors) = false
+is_spent (Shown name plans anchors) = false
 is_spent (Refused refusal) = false
 
--- how often a planner was asked for the answer to a line: once for an execution, not at all for another reply; once at
--- most where there were too many rows or memory was short
+-- how often a planner was asked for an execution: once where it is by optimum, and not at all for a reuse
+abbrev pub IsAskedBy : ℕ → By → ℕ → Type 0
+IsAskedBy old (by.Optimum tried) new = new ≡ old + 1
+IsAskedBy old (by.Selectivity anchor plan) new = new ≡ old
+IsAskedBy old (by.Cost anchor plan tried) new = new ≡ old
+
+-- the same where there were too many rows for one: once at most
+abbrev pub IsAskedFor : ℕ → Option (Execution × List (List ℕ)) → ℕ → Type 0
+IsAskedFor old None new = MayAsk old new
+IsAskedFor old (Some ran) new = IsAskedBy old ran.0.by new
+
+-- how often for the answer to a line: as for its execution, not at all for another reply; once at most where there were
+-- too many rows or memory was short
 abbrev pub IsAsked : ℕ → Reply → ℕ → Type 0
-IsAsked old (Ran execution rows) new = new ≡ old + 1
+IsAsked old (Ran execution rows) new = IsAskedBy old execution.by new
+IsAsked old (Opened cursor execution) new = IsAskedBy old execution.by new
 IsAsked old (Refused why) new = (new ≡ old) ⊎ ((why.code ≡ TOO_MANY_ROWS) × (new ≡ old + 1))
 IsAsked old Spent new = MayAsk old new
 IsAsked old (Loaded table rows columns) new = new ≡ old
 IsAsked old (Indexed table column) new = new ≡ old
 IsAsked old (Prepared name tables predicates parameters) new = new ≡ old
+IsAsked old (Fetched cursor rows left) new = new ≡ old
+IsAsked old (Closed cursor) new = new ≡ old
+IsAsked old (Evicted name plan anchors) new = new ≡ old
+IsAsked old (Shown name plans anchors) new = new ≡ old

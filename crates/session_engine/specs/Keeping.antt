@@ -11,8 +11,7 @@ use Rattle.anchor_cache.specs.Contents.{Contents, has_number, state_of}
 use Rattle.anchor_cache.specs.Instances.{cost_at}
 use Rattle.redundancy_check.specs.Covering.{cheapest_serving}
 use Rattle.session_engine.specs.declared.keeping.Keeping.{Keeping}
-use Rattle.session_engine.specs.declared.keeping.KeptNote.{KeptNote}
-use Rattle.session_engine.specs.declared.keeping.KeptNote.TheVariants.{New, Nothing, Old}
+use Rattle.session_model.specs.Executions.{eviction_shown, note_shown}
 use Rattle.session_engine.specs.declared.keeping.OldPlan.{OldPlan}
 use Rattle.session_engine.specs.declared.keeping.Optimum.{Optimum}
 
@@ -24,19 +23,11 @@ optimum_of optimum = record {
   least = optimum.least;
 }
 
-abbrev pub note_of : model.KeptNote → KeptNote
-note_of (model.KeptNew number) = New number
-note_of (model.KeptOld number) = Old number
-note_of model.KeptNothing = Nothing
-
-abbrev pub eviction_told : model.Eviction → ℕ × ℕ
-eviction_told eviction = (eviction.plan, eviction.anchors)
-
 -- the cache holds what the model keeps, and the answer tells of it
 pub record IsKept (keeping : model.Keeping) (contents : Contents) (answer : Keeping) : Type 0 where
   pub cache : keeping.cache ≡ state_of contents
-  pub evicted : answer.evicted ≡ option_map eviction_told keeping.evicted
-  pub kept : answer.kept ≡ note_of keeping.kept
+  pub evicted : answer.evicted ≡ option_map eviction_shown keeping.evicted
+  pub kept : answer.kept ≡ note_shown keeping.kept
 
 -- a plan of such a tree costs as much as the kept plan does by its polynomial
 abbrev pub CostsAt : (TopTree → ℕ) → List ℕ → Kept → Type 0

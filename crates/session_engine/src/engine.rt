@@ -1,7 +1,7 @@
 //! The engine: a session's state, the planner that it asks, and the counts that bound it.
 ghost use Rattle.std.specs.Prelude.{◌≡◌, ◌≢◌, ◌+◌, ◌<◌, ◌^◌, option_map, true, false, ℕ, List, Option};
-ghost use Rattle.plan_trees.specs.Statistics.{AreWeights};
 ghost use Rattle.script_report.specs.Commands.{Bad, Says};
+ghost use Rattle.session_model.specs.Session.{AreSettings};
 ghost use Rattle.session_model.specs.State.{initial_state};
 ghost use Rattle.session_model.specs.Step.{Step};
 ghost use Rattle.session_engine.specs.Engines.{IsAsked, is_spent};
@@ -26,8 +26,12 @@ pub struct Engine<P: Planner> {
 
 impl<P: Planner> Model for Engine<P> {
     ghost use Rattle.session_engine.specs.Engines.{EngineState, IsCounted};
+    ghost use Rattle.session_model.specs.Codes.{tree_code};
+    ghost use Rattle.std.specs.Coded.{codes};
 
     ghost Value = { EngineState };
+
+    ghost coded = { Prim.hlevel (codes, tree_code) };
 
     ghost view = { λ e. record {
       state = e.session;
@@ -42,7 +46,7 @@ impl<P: Planner> Model for Engine<P> {
 impl<P: Planner> Engine<P> {
     /// The first state of a session, with a planner that was never asked. It takes no memory.
     pub fn new(alloc: Global, settings: Settings, planner: P) -> Engine<P>
-        requires weights { AreWeights settings.weights }
+        requires settings { AreSettings settings }
         requires planner { P.asked planner ≡ 0 }
         ensures { result ≡ record { state = initial_state settings; steps = 0; optimised = 0; spent = false } }
     {

@@ -1,49 +1,78 @@
-//! Executing an instance: a plan of least cost is asked for, and gives the rows that the statement means.
+//! Executing an instance: a kept plan that a check lets through, else one of least cost, gives the rows that the
+//! statement means.
 //!
-//! Rows are shaped before the first row line is made, so too many are known before anything is written.
-ghost use Rattle.std.specs.Prelude.{◌≡◌, ◌+◌, ◌<◌, ◌^◌, IfOk, map};
-ghost use Rattle.csv_tables.specs.StatementTables.{AreTablesOf, rows_in, tables_in};
-ghost use Rattle.table_index.specs.StatementIndexes.{AreIndexesOf, indexes_in, masks_of};
-ghost use Rattle.plan_trees.specs.Statistics.{IsSoundStats, IsSoundVector};
-ghost use Rattle.plan_costs.specs.BestPlans.{IsBest};
-ghost use Rattle.plan_costs.specs.declared.planner.Best.{Best as BestPlan};
+//! Rows are shaped before the first row line is made, so too many are known before anything is written. All memory is
+//! taken before the cache changes: what fails leaves its plans and anchors as they were. The way in is `execute`.
+ghost use Rattle.std.specs.Prelude.{ℕ, ◌≡◌, ◌+◌, ◌<◌, ◌^◌, All, IfOk, IfSome, OnErr, find, map};
+ghost use Rattle.std.specs.Option.{option_map};
+ghost use Rattle.csv_tables.specs.StatementTables.{rows_in, tables_in};
+ghost use Rattle.plan_trees.specs.PlanSpace.{IsValidTop};
+ghost use Rattle.plan_trees.specs.Trees.{top_tree};
+ghost use Rattle.cache_model.specs.Choices.{ByOptimum};
+ghost use Rattle.cache_model.specs.Laws.{IsWithinBound};
+ghost use Rattle.anchor_cache.specs.Anchors.{held};
+ghost use Rattle.anchor_cache.specs.Contents.{has_number, state_of};
 ghost use Rattle.result_shape.specs.Rows.{rows_seen};
-ghost use Rattle.session_model.specs.Executions.{IsExecution};
+ghost use Rattle.session_model.specs.Session.{AreSettings};
 ghost use Rattle.statement_meaning.specs.Spelling.{row_line};
-ghost use Rattle.statement_statistics.specs.Statistics.{first_wide};
-ghost use Rattle.session_engine.specs.Executed.{Executed, IsReady};
+ghost use Rattle.session_engine.specs.Engines.{IsAskedBy, IsAskedFor, MayAsk};
+ghost use Rattle.session_engine.specs.Executed.{AreFewRows, Executed, ExecutedBy, IsReady, certificate_of, reused_by, way_of};
+ghost use Rattle.session_engine.specs.Serving.{IsCosted, IsServing};
 
+use crate::choosing::{Choice, choose};
+use crate::keeping::{Optimum, keep};
 use crate::shaping::rows_by;
+use anchor_cache::{Anchor, Cache, Kept};
 use bound_certificate::Cert;
 use plan_costs::{Best, Planner};
 use plan_operators::Source;
-use plan_trees::{Vector, print_plan};
+use plan_recost::Costed;
+use plan_trees::{Top, print_plan};
 use result_shape::{Rows, RowsFault, row_text};
 use row_values::{OutOfMemory, Query, Words};
-use script_report::{Execution, Lines};
+use script_report::{By, Execution, KeptNote, Lines};
+use session_model::Settings;
 use session_store::Instance;
 use std::alloc::Global;
 
-/// What is shown of the execution of this number, by the best plan at this vector.
-fn describe(
-    alloc: Global,
-    number: u64,
-    name: &Words,
-    q: &Query,
-    instance: &Instance,
-    best: Best,
-) -> Result<Execution, OutOfMemory>
-    requires { IsBest q.now instance.now.stats instance.now.at best }
-    ensures { IfOk result (IsExecution number name.now q.now instance.now.stats instance.now.at) }
+/// The check that lets a kept plan serve; by the cost check as the last of so many candidates.
+#[derive(Clone, Copy, Debug)]
+enum Check {
+    Selectivity,
+    Cost(u32),
+}
+
+/// What is told of a reuse of this anchor's plan.
+fn way(check: Check, anchor: &Anchor) -> By
+    ensures { result ≡ way_of check (held anchor.now) }
 {
-    Ok(Execution {
-        name: name.copy(alloc)?,
-        number,
-        spelled: print_plan(alloc, q, &best.plan)?,
-        cost: best.cost,
-        at: instance.at,
-        cert: Cert::Optimum(best.potentials),
-    })
+    let plan = anchor.plan;
+    let anchor = anchor.execution;
+    match check {
+        Check::Selectivity => By::Selectivity { anchor, plan },
+        Check::Cost(tried) => By::Cost {
+            anchor,
+            plan,
+            tried,
+        },
+    }
+}
+
+/// The certificate of a reuse: it names the execution that was optimised.
+fn certificate(check: Check, execution: u64) -> Cert
+    ensures { result ≡ certificate_of check execution }
+{
+    match check {
+        Check::Selectivity => Cert::Selectivity(execution),
+        Check::Cost(_) => Cert::Cost(execution),
+    }
+}
+
+/// The kept plan of this number.
+fn plan_numbered(plans: &[Kept], number: u64) -> Option<&Kept>
+    ensures { option_map (λ kept. kept.now) result ≡ find (has_number number) plans.now }
+{
+    plans.iter().find(|kept| kept.number == number)
 }
 
 /// The lines of result rows.
@@ -57,28 +86,186 @@ fn row_lines(alloc: Global, q: &Query, rows: &Rows) -> Result<Lines, OutOfMemory
     Ok(lines)
 }
 
-/// What an execution is and its row lines; nothing where it has too many rows. The planner is asked once.
-pub fn execute<P: Planner>(
+/// The rows that the statement means, by this plan; none where there are too many.
+fn few_rows(
     alloc: Global,
-    planner: &mut P,
-    number: u64,
+    source: &Source<'_>,
+    instance: &Instance,
+    plan: &Top,
+) -> Result<Option<Rows>, OutOfMemory>
+    requires ready { IsReady source.now instance.now }
+    requires valid { IsValidTop source.now.q.now instance.now.stats.indexed (top_tree plan.now) }
+    ensures { IfOk result (AreFewRows source.now.q.now (rows_in (tables_in source.now.tables.now))
+        source.now.args.now) }
+{
+    match rows_by(alloc, source, plan) {
+        Ok(rows) => Ok(Some(rows)),
+        Err(RowsFault::TooManyRows) => Ok(None),
+        Err(RowsFault::Memory) => Err(OutOfMemory),
+    }
+}
+
+/// The plan of the anchor at this place is used again.
+fn reuse(
+    alloc: Global,
+    settings: Settings,
+    executions: u64,
     name: &Words,
     source: &Source<'_>,
     instance: &Instance,
+    cache: &mut Cache,
+    place: usize,
+    check: Check,
+) -> Result<Option<(Execution, Lines)>, OutOfMemory>
+    requires ready { IsReady source.now instance.now }
+    requires few { executions < 2 ^ 62 }
+    requires serving { IsServing source.now.q.now instance.now.stats executions settings.budget cache.old }
+    requires bound { IsWithinBound (state_of cache.old) source.now.q.now instance.now.stats instance.now.at
+        settings.lambda place }
+    ensures executed { IfOk result (ExecutedBy (reused_by check place) settings (executions + 1) name.now source.now.q.now
+        (rows_in (tables_in source.now.tables.now)) source.now.args.now instance.now.stats instance.now.at
+        (state_of cache.old) (state_of cache.new)) }
+    ensures failed { OnErr result (state_of cache.new ≡ state_of cache.old) }
+    ensures costed { All (IsCosted source.now.q.now instance.now.stats) cache.new.plans }
+    ensures told { IfOk result (λ ran. IfSome ran (λ r. (asked : ℕ) → IsAskedBy asked r.0.by asked)) }
+{
+    let anchor = cache.anchors()[place];
+    let Some(kept) = plan_numbered(cache.plans(), anchor.plan) else {
+        unreachable!()
+    };
+    let plan = &kept.costed.plan;
+    let Some(rows) = few_rows(alloc, source, instance, plan)? else {
+        return Ok(None);
+    };
+    let execution = Execution {
+        name: name.copy(alloc)?,
+        number: executions + 1,
+        spelled: print_plan(alloc, source.q, plan)?,
+        cost: kept.costed.cost_at(instance.at.as_slice()),
+        at: instance.at,
+        by: way(check, &anchor),
+        evicted: None,
+        kept: KeptNote::Reused,
+        cert: certificate(check, anchor.execution),
+    };
+    let lines = row_lines(alloc, source.q, &rows)?;
+    cache.used(place);
+    Ok(Some((execution, lines)))
+}
+
+/// The instance is optimised, and kept as far as the rule says.
+fn optimise<P: Planner>(
+    alloc: Global,
+    planner: &mut P,
+    settings: Settings,
+    executions: u64,
+    name: &Words,
+    source: &Source<'_>,
+    instance: &Instance,
+    cache: &mut Cache,
+    tried: u32,
 ) -> Result<Option<(Execution, Lines)>, OutOfMemory>
     requires ready { IsReady source.now instance.now }
     requires room { P.asked planner.old < 2 ^ 63 }
+    requires settings { AreSettings settings }
+    requires few { executions < 2 ^ 62 }
+    requires serving { IsServing source.now.q.now instance.now.stats executions settings.budget cache.old }
     ensures asked { P.asked planner.new ≡ P.asked planner.old + 1 }
-    ensures executed { IfOk result (Executed number name.now source.now.q.now
-        (rows_in (tables_in source.now.tables.now)) source.now.args.now instance.now.stats instance.now.at) }
+    ensures executed { IfOk result (ExecutedBy (ByOptimum tried) settings (executions + 1) name.now source.now.q.now
+        (rows_in (tables_in source.now.tables.now)) source.now.args.now instance.now.stats instance.now.at
+        (state_of cache.old) (state_of cache.new)) }
+    ensures failed { OnErr result (state_of cache.new ≡ state_of cache.old) }
+    ensures costed { All (IsCosted source.now.q.now instance.now.stats) cache.new.plans }
+    ensures told { IfOk result (λ ran. IfSome ran (λ r. (asked : ℕ) → IsAskedBy asked r.0.by (asked + 1))) }
 {
-    let best = planner.optimise(alloc, source.q, &instance.stats, instance.at.as_slice())?;
-    let rows = match rows_by(alloc, source, &best.plan) {
-        Ok(rows) => rows,
-        Err(RowsFault::TooManyRows) => return Ok(None),
-        Err(RowsFault::Memory) => return Err(OutOfMemory),
+    let Best {
+        plan,
+        cost,
+        potentials,
+    } = planner.optimise(alloc, source.q, &instance.stats, instance.at.as_slice())?;
+    let Some(rows) = few_rows(alloc, source, instance, &plan)? else {
+        return Ok(None);
     };
-    let execution = describe(alloc, number, name, source.q, instance, best)?;
+    let name = name.copy(alloc)?;
+    let spelled = print_plan(alloc, source.q, &plan)?;
     let lines = row_lines(alloc, source.q, &rows)?;
+    let costed = Costed::of(alloc, source.q, &instance.stats, plan)?;
+    cache.reserve_one()?;
+    let number = executions + 1;
+    let optimum = Optimum {
+        execution: number,
+        at: instance.at,
+        costed,
+        least: cost,
+    };
+    let keeping = keep(cache, optimum, settings.keep, settings.budget);
+    let execution = Execution {
+        name,
+        number,
+        spelled,
+        cost,
+        at: instance.at,
+        by: By::Optimum { tried },
+        evicted: keeping.evicted,
+        kept: keeping.kept,
+        cert: Cert::Optimum(potentials),
+    };
     Ok(Some((execution, lines)))
+}
+
+/// What an execution is and its row lines; nothing where it has too many rows. A kept plan serves exactly where a check
+/// lets it through; else the planner is asked, once. So many executions were before it.
+pub fn execute<P: Planner>(
+    alloc: Global,
+    planner: &mut P,
+    settings: Settings,
+    executions: u64,
+    name: &Words,
+    source: &Source<'_>,
+    instance: &Instance,
+    cache: &mut Cache,
+) -> Result<Option<(Execution, Lines)>, OutOfMemory>
+    requires ready { IsReady source.now instance.now }
+    requires room { P.asked planner.old < 2 ^ 63 }
+    requires settings { AreSettings settings }
+    requires few { executions < 2 ^ 62 }
+    requires serving { IsServing source.now.q.now instance.now.stats executions settings.budget cache.old }
+    ensures asked { IfOk result (λ ran. IsAskedFor (P.asked planner.old) ran (P.asked planner.new)) }
+    ensures may_ask { MayAsk (P.asked planner.old) (P.asked planner.new) }
+    ensures executed { IfOk result (Executed settings (executions + 1) name.now source.now.q.now
+        (rows_in (tables_in source.now.tables.now)) source.now.args.now instance.now.stats instance.now.at
+        (state_of cache.old) (state_of cache.new)) }
+    ensures failed { OnErr result (state_of cache.new ≡ state_of cache.old) }
+    ensures costed { All (IsCosted source.now.q.now instance.now.stats) cache.new.plans }
+{
+    // That every statement is sound, its readers pass on.
+    source.q.sound();
+    let at = instance.at.as_slice();
+    match choose(cache, at, settings.lambda, settings.recosts) {
+        Choice::BySelectivity { place } => reuse(
+            alloc,
+            settings,
+            executions,
+            name,
+            source,
+            instance,
+            cache,
+            place,
+            Check::Selectivity,
+        ),
+        Choice::ByCost { place, tried } => reuse(
+            alloc,
+            settings,
+            executions,
+            name,
+            source,
+            instance,
+            cache,
+            place,
+            Check::Cost(tried),
+        ),
+        Choice::ByOptimum { tried } => optimise(
+            alloc, planner, settings, executions, name, source, instance, cache, tried,
+        ),
+    }
 }

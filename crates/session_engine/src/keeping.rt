@@ -14,7 +14,8 @@ ghost use Rattle.cache_model.specs.Keeping.{with_room};
 ghost use Rattle.anchor_cache.specs.Anchors.{held};
 ghost use Rattle.anchor_cache.specs.Contents.{has_number, has_plan, state_of};
 ghost use Rattle.anchor_cache.specs.Instances.{HasCostAt, cost_at};
-ghost use Rattle.session_engine.specs.Keeping.{CostsAt, IsKept, WasOrIsNew, eviction_told, kept_with_number};
+ghost use Rattle.session_model.specs.Executions.{eviction_shown};
+ghost use Rattle.session_engine.specs.Keeping.{CostsAt, IsKept, WasOrIsNew, kept_with_number};
 ghost use Rattle.session_engine.specs.Keeping.{old_kept, old_plan_at, optimum_of, plans_with_room};
 
 use anchor_cache::{Anchor, Cache, Kept};
@@ -24,6 +25,7 @@ use plan_eviction::{evict, victim};
 use plan_recost::Costed;
 use plan_trees::Vector;
 use redundancy_check::covering;
+use script_report::KeptNote;
 
 /// An instance that was optimised: which execution it was, its vector, its plan with what that costs, and the least
 /// cost.
@@ -33,16 +35,6 @@ pub struct Optimum {
     pub at: Vector,
     pub costed: Costed,
     pub least: u128,
-}
-
-/// What was kept: nothing of a reuse; of an optimum an anchor with the plan under a new number, or an anchor of an old
-/// plan, or nothing.
-#[derive(Clone, Copy, Debug)]
-pub enum KeptNote {
-    Reused,
-    New(u64),
-    Old(u64),
-    Nothing,
 }
 
 /// What the keeping of an optimum did: the plan that was evicted with how many anchors, and what was kept.
@@ -145,7 +137,7 @@ fn plan_to_go(cache: &Cache, budget: u16) -> Option<u64>
 
 /// Where there are as many plans as the budget one goes, and the answer is which, with how many anchors.
 fn make_room(cache: &mut Cache, budget: u16) -> Option<(u64, u32)>
-    ensures evicted { result ≡ option_map eviction_told (option_map (eviction_of (state_of cache.old))
+    ensures evicted { result ≡ option_map eviction_shown (option_map (eviction_of (state_of cache.old))
         (evicted_for_room (state_of cache.old) budget)) }
     ensures plans { cache.new.plans ≡ plans_with_room cache.old budget }
     ensures state { state_of cache.new ≡ with_room (state_of cache.old) budget }

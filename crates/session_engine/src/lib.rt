@@ -5,10 +5,14 @@
 //! of memory each later one is answered `Spent`. The one way in is `Engine::step`.
 #![tactic(auto)]
 
+mod choosing;
+mod clearing;
 mod engine;
 mod execution;
+mod keeping;
 mod session;
 mod shaping;
+mod showing;
 
 pub use engine::Engine;
 pub use session_model::Settings;

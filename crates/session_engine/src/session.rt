@@ -3,15 +3,21 @@ ghost use Rattle.std.specs.Prelude.{◌≡◌, ◌<◌, ◌^◌, [], IfOk, OnErr
 ghost use Rattle.row_values.specs.Statements.{kinds_of};
 ghost use Rattle.row_values.specs.Refusals.{refusal};
 ghost use Rattle.session_model.specs.State.{initial_state};
-ghost use Rattle.plan_trees.specs.Statistics.{AreWeights};
-ghost use Rattle.session_model.specs.Step.{CommandStep, IndexStep, LoadStep, PrepareStep, RunStep};
+ghost use Rattle.session_model.specs.Session.{AreSettings};
+ghost use Rattle.session_model.specs.Step.{CommandStep, EvictStep, IndexStep, LoadStep, PrepareStep, RunStep, ShowStep};
 ghost use Rattle.session_engine.specs.Engines.{CountsOn, HasRoom, IsAsked, MayAsk};
+ghost use Rattle.session_engine.specs.Numbered.{Numbers};
 
+use crate::clearing::clear_for;
 use crate::execution::execute;
+use crate::showing::{shown_anchors, shown_plans};
+use anchor_cache::Cache;
 use plan_costs::Planner;
+use plan_eviction::evict;
 use plan_operators::Source;
 use row_values::{
     MISSING_FILE, NOT_BUILT, OutOfMemory, Query, Refusal, TOO_MANY_ROWS, Value, Words,
+    canonical_name,
 };
 use script_report::{Command, Reply};
 use session_model::Settings;
@@ -20,22 +26,30 @@ use sql_parser::Select;
 use std::alloc::Global;
 use std::marker::Model;
 
-/// The catalog, the number of executions so far, and the settings; contracts see the session's state.
+/// The catalog, the plan cache of each statement in the order of the statements, the number of executions so far, and
+/// the settings; contracts see the session's state, in which each cache is true of its statement.
 #[derive(Drop)]
 pub struct Session {
     alloc: Global,
     store: Store,
+    caches: Vec<Cache>,
     executions: u64,
     settings: Settings,
 }
 
 impl Model for Session {
-    ghost use Rattle.std.specs.Prelude.{[]};
     ghost use Rattle.session_model.specs.State.{State};
+    ghost use Rattle.session_engine.specs.Serving.{IsSessionKept, session_of};
+    ghost use Rattle.session_model.specs.Codes.{tree_code};
+    ghost use Rattle.std.specs.Coded.{codes};
 
     ghost Value = { State };
 
-    ghost view = { λ s. record { catalog = s.store; cursors = []; executions = s.executions; settings = s.settings } };
+    ghost coded = { Prim.hlevel (codes, tree_code) };
+
+    ghost view = { λ s. session_of s.store s.caches.items s.executions s.settings };
+
+    ghost invariant = { λ s. IsSessionKept s.store s.caches.items s.executions s.settings };
 }
 
 /// The refusal that shows nothing.
@@ -61,12 +75,13 @@ fn prepared(name: Words, q: &Query) -> Reply
 impl Session {
     /// The first state. It takes no memory.
     pub fn new(alloc: Global, settings: Settings) -> Session
-        requires { AreWeights settings.weights }
+        requires { AreSettings settings }
         ensures { result ≡ initial_state settings }
     {
         Session {
             alloc,
             store: Store::new(alloc, settings.weights),
+            caches: Vec::new(alloc),
             executions: 0,
             settings,
         }
@@ -85,11 +100,14 @@ impl Session {
         };
         let shown = table.copy(self.alloc)?;
         match self.store.load(table, bytes) {
-            Ok((rows, columns)) => Ok(Reply::Loaded {
-                table: shown,
-                rows,
-                columns,
-            }),
+            Ok((rows, columns)) => {
+                clear_for(&self.store, table, self.caches.as_mut_slice());
+                Ok(Reply::Loaded {
+                    table: shown,
+                    rows,
+                    columns,
+                })
+            }
             Err(StoreFault::Refused(why)) => Ok(Reply::Refused(why)),
             Err(StoreFault::Memory) => Err(OutOfMemory),
         }
@@ -106,7 +124,10 @@ impl Session {
             column: column.copy(self.alloc)?,
         };
         match self.store.add_index(table, column) {
-            Ok(()) => Ok(indexed),
+            Ok(()) => {
+                clear_for(&self.store, table, self.caches.as_mut_slice());
+                Ok(indexed)
+            }
             Err(StoreFault::Refused(why)) => Ok(Reply::Refused(why)),
             Err(StoreFault::Memory) => Err(OutOfMemory),
         }
@@ -118,9 +139,15 @@ impl Session {
         ensures err { OnErr result (self.new ≡ self.old) }
         ensures counts { CountsOn self.old self.new }
     {
+        // That every statement in memory is one that the grammar gives, its readers pass on.
+        let _ = select.items();
         let shown = name.copy(self.alloc)?;
+        self.caches.reserve(1)?;
         match self.store.prepare(name, select) {
-            Ok(statement) => Ok(prepared(shown, self.store.query(statement))),
+            Ok(statement) => {
+                self.caches.push_reserved(Cache::new(self.alloc));
+                Ok(prepared(shown, self.store.query(statement)))
+            }
             Err(StoreFault::Refused(why)) => Ok(Reply::Refused(why)),
             Err(StoreFault::Memory) => Err(OutOfMemory),
         }
@@ -154,14 +181,75 @@ impl Session {
             indexes: &indexes,
             args,
         };
-        let number = self.executions + 1;
-        match execute(self.alloc, planner, number, name, &source, &instance)? {
+        let ran = execute(
+            self.alloc,
+            planner,
+            self.settings,
+            self.executions,
+            name,
+            &source,
+            &instance,
+            &mut self.caches[instance.statement as usize],
+        )?;
+        match ran {
             None => Ok(refused(self.alloc, TOO_MANY_ROWS)),
             Some((execution, rows)) => {
-                self.executions = number;
+                self.executions += 1;
                 Ok(Reply::Ran { execution, rows })
             }
         }
+    }
+
+    /// The number of the statement of this name; or the refusal, where there is none.
+    fn number_of(&self, name: &Words) -> Result<Result<u32, Refusal>, OutOfMemory>
+        ensures { IfOk result (λ found. Numbers self.now.catalog.statements name.now found) }
+    {
+        match self.store.find(name) {
+            Some(number) => Ok(Ok(number)),
+            None => {
+                let shown = canonical_name(self.alloc, name.as_str())?;
+                Ok(Err(Refusal::unknown_statement(shown)))
+            }
+        }
+    }
+
+    /// `evict NAME PLAN`.
+    fn evict(&mut self, name: &Words, plan: u64) -> Result<Reply, OutOfMemory>
+        ensures ok { IfOk result (λ reply. EvictStep self.old name.now plan reply self.new) }
+        ensures err { OnErr result (self.new ≡ self.old) }
+        ensures counts { CountsOn self.old self.new }
+    {
+        let number = match self.number_of(name)? {
+            Ok(number) => number,
+            Err(why) => return Ok(Reply::Refused(why)),
+        };
+        let name = name.copy(self.alloc)?;
+        let unknown = Refusal::unknown_plan(self.alloc, plan)?;
+        let Some(anchors) = evict(&mut self.caches[number as usize], plan) else {
+            return Ok(Reply::Refused(unknown));
+        };
+        Ok(Reply::Evicted {
+            name,
+            plan,
+            anchors,
+        })
+    }
+
+    /// `show NAME`.
+    fn show(&self, name: &Words) -> Result<Reply, OutOfMemory>
+        ensures { IfOk result (λ reply. ShowStep self.now name.now reply self.now) }
+    {
+        let number = match self.number_of(name)? {
+            Ok(number) => number,
+            Err(why) => return Ok(Reply::Refused(why)),
+        };
+        let q = self.store.query(number);
+        let cache = &self.caches[number as usize];
+        Ok(Reply::Shown {
+            name: name.copy(self.alloc)?,
+            plans: shown_plans(self.alloc, q, cache)?,
+            anchors: shown_anchors(self.alloc, cache)?,
+        })
     }
 
     /// The answer to a command, by its kind.
@@ -192,8 +280,8 @@ impl Session {
             } => Ok(refused(self.alloc, NOT_BUILT)),
             Command::Fetch { cursor: _, rows: _ } => Ok(refused(self.alloc, NOT_BUILT)),
             Command::Close { cursor: _ } => Ok(refused(self.alloc, NOT_BUILT)),
-            Command::Evict { name: _, plan: _ } => Ok(refused(self.alloc, NOT_BUILT)),
-            Command::Show { name: _ } => Ok(refused(self.alloc, NOT_BUILT)),
+            Command::Evict { name, plan } => self.evict(name, *plan),
+            Command::Show { name } => self.show(name),
         }
     }
 }

@@ -2,3 +2,5 @@ pub mod Chains
 pub mod Progress
 pub mod Sessions
 pub mod WholeFiles
+pub mod EachCache
+pub mod Reuse

@@ -3,17 +3,16 @@ use Rattle.std.specs.Prelude.{ℕ, ◌≡◌, List, false, Option}
 use Rattle.std.specs.Option.{option_map}
 use Rattle.outside_model.specs.declared.TheConstants.{FILE_LIMIT}
 use Rattle.outside_model.specs.Files.{Files, up_to}
-use Rattle.plan_trees.specs.Statistics.{AreWeights}
 use Rattle.script_report.specs.Commands.{Reading, reading_of}
 use Rattle.script_report.specs.declared.replies.Reply.{Reply}
 use Rattle.session_model.specs.Run.{Line, IsChain, StepOver, is_silent}
-use Rattle.session_model.specs.Session.{IsSession}
+use Rattle.session_model.specs.Session.{AreSettings, IsSession}
 use Rattle.session_model.specs.State.{State, initial_state}
 use Rattle.session_model.specs.Step.{Step, CanStep}
 use Rattle.session_model.specs.declared.settings.Settings.{Settings}
 
 abbrev pub FirstStateLaw : Type 0
-FirstStateLaw = (settings : Settings) → AreWeights settings.weights → IsSession (initial_state settings)
+FirstStateLaw = (settings : Settings) → AreSettings settings → IsSession (initial_state settings)
 
 -- kept by every step of a line
 abbrev pub KeptLaw : Type 0

@@ -1,3 +1,4 @@
+pub mod Codes
 pub mod Executions
 pub mod Laws
 pub mod Run

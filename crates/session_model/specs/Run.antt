@@ -56,6 +56,11 @@ is_refusal (reply.Loaded table rows columns) = false
 is_refusal (reply.Indexed table column) = false
 is_refusal (reply.Prepared name tables predicates parameters) = false
 is_refusal (reply.Ran execution rows) = false
+is_refusal (reply.Opened cursor execution) = false
+is_refusal (reply.Fetched cursor rows left) = false
+is_refusal (reply.Closed cursor) = false
+is_refusal (reply.Evicted name plan anchors) = false
+is_refusal (reply.Shown name plans anchors) = false
 is_refusal reply.Spent = false
 
 abbrev pub some_refusal : List Reply → Bool

@@ -1,6 +1,8 @@
 -- What one line may answer, and what it leaves.
-use Rattle.std.specs.Prelude.{ℕ, ◌≡◌, ◌+◌, List, [], length, map, option_and_then, Option, Some, None, MatchOption, MatchResult}
+use Rattle.std.specs.Prelude.{ℕ, ◌≡◌, ◌+◌, List, [], ◌∷◌, ◌++◌, length, map, set, option_and_then, Option, Some, None}
+use Rattle.std.specs.Prelude.{MatchOption, MatchResult}
 use Rattle.outside_model.specs.Files.{Files}
+use Rattle.row_values.specs.Names.{canonical_name}
 use Rattle.row_values.specs.Refusals as refused
 use Rattle.row_values.specs.Statements.{Statement, kinds_of}
 use Rattle.row_values.specs.declared.refusals.Refusal.{Refusal}
@@ -14,25 +16,34 @@ use Rattle.script_report.specs.declared.commands.Command.TheVariants.{Load, Inde
 use Rattle.script_report.specs.declared.replies.Execution.{Execution}
 use Rattle.script_report.specs.declared.replies.Reply.{Reply}
 use Rattle.script_report.specs.declared.replies.Reply.TheVariants as reply
+use Rattle.script_report.specs.declared.shown.ShownAnchor.{ShownAnchor}
+use Rattle.script_report.specs.declared.shown.ShownPlan.{ShownPlan}
+use Rattle.cache_model.specs.Caches.{Anchor, CachedPlan, CacheState, anchors_of, empty_cache, top_numbered, uses_of, without}
+use Rattle.plan_trees.specs.Spelling.{top_text}
 use Rattle.plan_trees.specs.Statistics.{Statistics}
 use Rattle.statement_meaning.specs.Vectors.{vector_of}
-use Rattle.catalog_model.specs.Catalogs.{Version, with_version, with_index, with_statement, stats_now, tables_of}
+use Rattle.catalog_model.specs.Catalogs.{Version, find_statement, number_of, with_version, with_index, with_statement}
+use Rattle.catalog_model.specs.Catalogs.{stats_now, tables_of}
 use Rattle.catalog_model.specs.Indexing.{indexing_of}
 use Rattle.catalog_model.specs.Instances.{instance_of}
 use Rattle.catalog_model.specs.Loading.{loading_of}
 use Rattle.catalog_model.specs.Preparing.{preparing_of}
 use Rattle.session_model.specs.Executions.{IsExecution, rows_refusal}
-use Rattle.session_model.specs.State.{State, held_versions}
+use Rattle.session_model.specs.State.{State, cache_at, cleared_for, held_versions}
 
 -- the line is turned down: the reply says why, and nothing changes
 pub record Refuses (why : Refusal) (old : State) (answer : Reply) (new : State) : Type 0 where
   pub says : answer ≡ reply.Refused why
   pub unchanged : new ≡ old
 
--- the version is kept, in the place of the one before, or in a new table behind the others
+-- the version is kept, in the place of the one before, or in a new table behind the others; the caches of the statements
+-- that read the table are cleared
 pub record Loads (old : State) (name : List ℕ) (version : Version) (answer : Reply) (new : State) : Type 0 where
   pub says : answer ≡ reply.Loaded name (length version.content.rows) (length version.content.schema)
-  pub keeps : new ≡ record old { catalog = with_version old.catalog name version }
+  pub keeps : new ≡ record old {
+    catalog = with_version old.catalog name version;
+    caches = cleared_for name old.catalog.statements old.caches;
+  }
 
 -- `load T FILE`: the file is there, and nothing speaks against it
 abbrev pub LoadStep : State → List ℕ → Option (List ℕ) → Reply → State → Type 0
@@ -42,10 +53,13 @@ LoadStep old name file answer new = MatchOption file
     (λ version. Loads old name version answer new)
     (λ why. Refuses why old answer new))
 
--- the column is indexed
+-- the column is indexed, and the caches of the statements that read the table are cleared
 pub record Indexes (old : State) (table column : List ℕ) (number : ℕ) (answer : Reply) (new : State) : Type 0 where
   pub says : answer ≡ reply.Indexed table column
-  pub keeps : new ≡ record old { catalog = with_index old.catalog table number }
+  pub keeps : new ≡ record old {
+    catalog = with_index old.catalog table number;
+    caches = cleared_for table old.catalog.statements old.caches;
+  }
 
 -- `index T COL`
 abbrev pub IndexStep : State → List ℕ → List ℕ → Reply → State → Type 0
@@ -53,10 +67,13 @@ IndexStep old table column answer new = MatchResult (indexing_of old.catalog tab
     (λ number. Indexes old table column number answer new)
     (λ why. Refuses why old answer new)
 
--- the statement is kept behind the others
+-- the statement is kept behind the others, with an empty cache
 pub record Prepares (old : State) (name : List ℕ) (q : Statement) (answer : Reply) (new : State) : Type 0 where
   pub says : answer ≡ reply.Prepared name (length q.places) (length q.preds) (length (kinds_of q.places q.preds))
-  pub keeps : new ≡ record old { catalog = with_statement old.catalog name q }
+  pub keeps : new ≡ record old {
+    catalog = with_statement old.catalog name q;
+    caches = old.caches ++ empty_cache ∷ [];
+  }
 
 -- `prepare NAME SELECT ..`
 abbrev pub PrepareStep : State → List ℕ → Parts → Reply → State → Type 0
@@ -76,13 +93,21 @@ present_stats state q = stats_now state.catalog.tables state.catalog.weights q
 abbrev pub present_vector : State → Statement → List Value → List ℕ
 present_vector state q args = vector_of q (present_tables state q) args
 
+-- a statement's number, its execution, and its cache after it
+pub record ExecutionStep (old : State) (name : List ℕ) (q : Statement) (args : List Value) (new : State) : Type 0 where
+  pub number : ℕ
+  pub its_number : number_of old.catalog.statements name ≡ Some number
+  pub execution : Execution
+  pub cache : CacheState
+  pub shows : IsExecution old.settings (old.executions + 1) name q (present_stats old q) (present_vector old q args)
+      (cache_at old.caches number) execution cache
+  pub keeps : new ≡ record old { caches = set old.caches number cache; executions = old.executions + 1 }
+
 -- the statement is executed: the reply has the execution, and a line for each row that the statement means
 pub record Executes (old : State) (name : List ℕ) (q : Statement) (args : List Value) (answer : Reply)
     (new : State) : Type 0 where
-  pub execution : Execution
-  pub shows : IsExecution (old.executions + 1) name q (present_stats old q) (present_vector old q args) execution
-  pub says : answer ≡ reply.Ran execution (map row_line (meaning_of q (present_tables old q) args))
-  pub counts : new ≡ record old { executions = old.executions + 1 }
+  pub step : ExecutionStep old name q args new
+  pub says : answer ≡ reply.Ran step.execution (map row_line (meaning_of q (present_tables old q) args))
 
 -- an instance, which is executed unless it has too many rows
 abbrev pub InstanceStep : State → List ℕ → Statement → List Value → Reply → State → Type 0
@@ -95,6 +120,55 @@ abbrev pub RunStep : State → List ℕ → List Value → Reply → State → T
 RunStep old name args answer new = MatchResult (instance_of old.catalog name args)
     (λ instance. InstanceStep old name instance.statement instance.args answer new)
     (λ why. Refuses why old answer new)
+
+-- the plan of this number goes from the statement's cache with its anchors
+pub record Evicts (old : State) (name : List ℕ) (number plan : ℕ) (answer : Reply) (new : State) : Type 0 where
+  pub says : answer ≡ reply.Evicted name plan (length (anchors_of (cache_at old.caches number).anchors plan))
+  pub drops : new ≡ record old { caches = set old.caches number (without (cache_at old.caches number) plan) }
+
+abbrev pub EvictFrom : State → List ℕ → ℕ → ℕ → Reply → State → Type 0
+EvictFrom old name plan number answer new = MatchOption (top_numbered (cache_at old.caches number).plans plan)
+    (Refuses (refused.unknown_plan plan) old answer new)
+    (λ top. Evicts old name number plan answer new)
+
+-- `evict NAME PLAN`
+abbrev pub EvictStep : State → List ℕ → ℕ → Reply → State → Type 0
+EvictStep old name plan answer new = MatchOption (number_of old.catalog.statements name)
+    (Refuses (refused.unknown_statement (canonical_name name)) old answer new)
+    (λ number. EvictFrom old name plan number answer new)
+
+-- a kept plan of a statement, how often its anchors were used, and how it is spelled
+abbrev pub plan_shown : Statement → List Anchor → CachedPlan → ShownPlan
+plan_shown q anchors plan = record {
+  number = plan.number;
+  uses = uses_of anchors plan.number;
+  text = top_text q.places plan.top;
+}
+
+abbrev pub anchor_shown : Anchor → ShownAnchor
+anchor_shown anchor = record {
+  execution = anchor.execution;
+  plan = anchor.plan;
+  uses = anchor.uses;
+  cost = anchor.plan_cost;
+  least = anchor.least;
+  at = anchor.at;
+}
+
+-- what the statement's cache holds is told, and nothing changes
+pub record Shows (old : State) (name : List ℕ) (number : ℕ) (answer : Reply) (new : State) : Type 0 where
+  pub statement : Statement
+  pub prepared : find_statement old.catalog.statements name ≡ Some statement
+  pub says : answer ≡ reply.Shown name
+      (map (plan_shown statement (cache_at old.caches number).anchors) (cache_at old.caches number).plans)
+      (map anchor_shown (cache_at old.caches number).anchors)
+  pub unchanged : new ≡ old
+
+-- `show NAME`
+abbrev pub ShowStep : State → List ℕ → Reply → State → Type 0
+ShowStep old name answer new = MatchOption (number_of old.catalog.statements name)
+    (Refuses (refused.unknown_statement (canonical_name name)) old answer new)
+    (λ number. Shows old name number answer new)
 
 -- a command that isn't built yet
 abbrev pub NotBuiltStep : State → Reply → State → Type 0
@@ -109,8 +183,8 @@ CommandStep old (Run name args) file answer new = RunStep old name args answer n
 CommandStep old (Cursor cursor name args) file answer new = NotBuiltStep old answer new
 CommandStep old (Fetch cursor rows) file answer new = NotBuiltStep old answer new
 CommandStep old (Close cursor) file answer new = NotBuiltStep old answer new
-CommandStep old (Evict name plan) file answer new = NotBuiltStep old answer new
-CommandStep old (Show name) file answer new = NotBuiltStep old answer new
+CommandStep old (Evict name plan) file answer new = EvictStep old name plan answer new
+CommandStep old (Show name) file answer new = ShowStep old name answer new
 
 -- what a line may answer, by what it says
 unfoldable pub Step : State → Reading → Option (List ℕ) → Reply → State → Type 0

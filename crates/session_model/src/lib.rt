@@ -8,6 +8,10 @@
 
 /// The most cursors that are open.
 pub const CURSOR_LIMIT: usize = 16;
+/// The most plans that a statement's cache keeps, whatever the settings.
+pub const BUDGET_LIMIT: u16 = 256;
+/// The most candidates that are costed again for an instance, whatever the settings.
+pub const RECOST_LIMIT: u8 = 64;
 /// The most rows of a result.
 pub const RESULT_LIMIT: usize = 1000000;
 

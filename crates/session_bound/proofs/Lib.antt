@@ -1,0 +1,4 @@
+pub mod Bounded
+pub mod Finds
+pub mod Ledgers
+pub mod Reuses
