@@ -1,7 +1,7 @@
 #!/usr/bin/env bash
 # The first run against a plain program: 1,048,576 rows of one whole number, a load and ten runs.
 #
-# It makes the file, builds the plain program with `rustc -O`, compares the two reports byte for byte, and then times
+# It makes the file, builds the plain program with `rustc -O`, compares the rows of both reports, and then times
 # both in turn: processor time (user and system) in seconds, and the ratio of the medians. `first_run.sh 9` has nine rounds.
 set -eu
 cd "$(dirname "$0")"
@@ -29,8 +29,8 @@ cd "$work"
 "$scr" run first.scr >proved.txt
 # shellcheck disable=SC2086
 ./plain t.csv $arguments >plain.txt
-cmp proved.txt plain.txt
-echo "the two reports agree: $(wc -c <proved.txt) bytes"
+cmp <(rows_alone proved.txt) <(rows_alone plain.txt)
+echo "the rows of the two reports agree: $(wc -c <proved.txt) bytes"
 
 for round in $(seq "$rounds"); do
     proved=$(seconds "$scr" run first.scr)

@@ -7,6 +7,11 @@ seconds() {
     { time "$@" >/dev/null; } 2>&1 | awk '{ print $1 + $2 }'
 }
 
+# A report without what executions tell of their plans: the plain programs know no cache.
+rows_alone() {
+    grep -vE '^(plan|cost|by|evicted|kept|cert) |^at( |$)' "$1"
+}
+
 # The median of a column of the rounds: other work on the machine makes single rounds slow.
 median() {
     awk -v column="$1" '{ print $column }' rounds.txt | sort -n | awk '{ all[NR] = $1 } END { print all[int((NR + 1) / 2)] }'
