@@ -1,5 +1,5 @@
 -- A catalog stays sound as a column is indexed: that changes flags alone.
-use Rattle.std.proofs.Common.{ℕ, ◌≡◌, ◌≤◌, ◌<◌, ◌∙◌, List, [], ◌∷◌, ◌++◌, length, set, cond, Bool, true, false, Option, All}
+use Rattle.std.proofs.Common.{ℕ, ◌≡◌, ◌≤◌, ◌<◌, ◌∙◌, List, [], ◌∷◌, ◌++◌, length, set, cond, Bool, true, false, All}
 use Rattle.std.proofs.Common.{ap, refl, suc, sym, subst}
 use Rattle.std.specs.Option.{option_map}
 use Rattle.std.specs.Str.{bytes_eq}

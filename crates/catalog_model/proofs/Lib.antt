@@ -1,4 +1,5 @@
 pub mod Bindings
+pub mod Cursors
 pub mod Cuts
 pub mod Indexings
 pub mod Loads

@@ -1,11 +1,12 @@
--- The numbers of versions as one is put, and what versions hold whose numbers differ.
-use Rattle.std.proofs.Common.{ℕ, ◌≡◌, ◌<◌, ◌+◌, ◌==◌, ◌&&◌, ◌||◌, not, List, [], ◌∷◌, map, ap, refl, cond, Bool, true, false, All, arith}
+-- The numbers of versions as one is put.
+use Rattle.std.proofs.Common.{ℕ, ◌≡◌, ◌<◌, ◌+◌, ◌==◌, ◌&&◌, ◌||◌, not, List, [], ◌∷◌, map, ap, refl, cond, Bool, true}
+use Rattle.std.proofs.Common.{false, All, arith}
 use Rattle.std.specs.Str.{bytes_eq}
 use Rattle.std.proofs.lemmas.Bool.{and_from, and_parts, not-true, or_from, or_parts}
 use Rattle.std.proofs.lemmas.Bool.Decides.{nat_tests}
 use Rattle.std.proofs.lemmas.List.Elements.{All-cons, All-nil, All-head, All-tail, All-weaker}
 use Rattle.catalog_model.specs.Catalogs.{TableState, Version, put_version}
-use Rattle.catalog_model.specs.Held.{present_versions, has_number, numbers_differ, each_once, cells_in, bytes_in, cells_held, bytes_held}
+use Rattle.catalog_model.specs.Held.{present_versions, has_number, numbers_differ}
 
 abbrev IsBefore : ℕ → TableState → Type 0
 IsBefore next table = table.now.number < next
@@ -16,23 +17,6 @@ renewed t version = record t { now = version }
 abbrev new_table : List ℕ → Version → TableState
 new_table name version =
     record { name = name; now = version; indexed = map (λ column. false) version.content.schema }
-
--- versions whose numbers differ are each there once
-once_by : (test : Bool) (v : Version) (vs : List Version) → test ≡ false → each_once vs ≡ vs
-    → cond test (each_once vs) (v ∷ each_once vs) ≡ v ∷ vs
-once_by true v vs e later = absurd cc
-once_by false v vs e later = ap (λ (rest : List Version). v ∷ rest) later
-
-pub once : (vs : List Version) → numbers_differ vs ≡ true → each_once vs ≡ vs
-once [] h = refl
-once (v ∷ vs) h = let p = and_parts (not (has_number v.number vs)) (numbers_differ vs) h in
-    once_by (has_number v.number vs) v vs (not-true _ p.0) (once vs p.1)
-
-pub cells_once : (vs : List Version) → numbers_differ vs ≡ true → cells_held vs ≡ cells_in vs
-cells_once vs h = ap cells_in (once vs h)
-
-pub bytes_once : (vs : List Version) → numbers_differ vs ≡ true → bytes_held vs ≡ bytes_in vs
-bytes_once vs h = ap bytes_in (once vs h)
 
 -- no version before the next one has its number
 fresh : (ts : List TableState) (next : ℕ) → All (IsBefore next) ts → has_number next (present_versions ts) ≡ false

@@ -1,5 +1,6 @@
 -- The catalog: tables with their versions and indexes, and prepared statements.
-use Rattle.std.specs.Prelude.{ℕ, ◌≡◌, ◌+◌, ◌*◌, List, [], ◌∷◌, ◌++◌, map, set, Bool, true, false, not, ◌&&◌, ◌||◌, Option}
+use Rattle.std.specs.Prelude.{ℕ, ◌≡◌, ◌+◌, ◌*◌, List, [], ◌∷◌, ◌++◌, map, set, Bool, true, false, not, ◌&&◌, ◌||◌}
+use Rattle.std.specs.Prelude.{Option}
 use Rattle.std.specs.Prelude.{None, Some, if◌then◌else◌, position}
 use Rattle.std.specs.Option.{option_map_or}
 use Rattle.std.specs.Str.{bytes_eq}
@@ -45,6 +46,11 @@ empty_catalog weights = record { tables = []; statements = []; versions = 0; wei
 abbrev pub find_table : List TableState → List ℕ → Option TableValue
 find_table [] name = None
 find_table (table ∷ tables) name = if bytes_eq name table.name then Some table.now.content else find_table tables name
+
+-- the version of the table of this name that is present
+abbrev pub find_version : List TableState → List ℕ → Option Version
+find_version [] name = None
+find_version (table ∷ tables) name = if bytes_eq name table.name then Some table.now else find_version tables name
 
 -- the statement of this name
 abbrev pub find_statement : List StatementState → List ℕ → Option Statement

@@ -8,7 +8,6 @@ use Rattle.plan_trees.specs.Statistics.{IsSoundStats, IsSoundVector}
 use Rattle.statement_meaning.specs.Vectors.{vector_of}
 use Rattle.sql_parser.specs.Statement.{IsSound, Parts}
 use Rattle.catalog_model.specs.Catalogs.{Catalog, Version, with_version, with_index, with_statement, stats_now, tables_of}
-use Rattle.catalog_model.specs.Indexing.{indexing_of}
 use Rattle.catalog_model.specs.Instances.{Instance, instance_of}
 use Rattle.catalog_model.specs.Loading.{loading_of}
 use Rattle.catalog_model.specs.Preparing.{preparing_of}

@@ -1,5 +1,5 @@
 -- What every catalog of a session has.
-use Rattle.std.specs.Prelude.{◌≡◌, ◌≤◌, ◌<◌, List, ◌++◌, length, All, IsTrue, Some}
+use Rattle.std.specs.Prelude.{ℕ, ◌≡◌, ◌≤◌, ◌<◌, List, ◌++◌, length, All, IsTrue, Some}
 use Rattle.std.specs.Option.{option_map}
 use Rattle.row_values.specs.Statements.{IsSoundQuery}
 use Rattle.row_values.specs.declared.statement.Place.{Place}
@@ -13,6 +13,12 @@ use Rattle.catalog_model.specs.Held.{present_versions, numbers_differ, cells_hel
 -- the place's table is loaded, with the columns that the place knows
 abbrev pub IsLoaded : List TableState → Place → Type 0
 IsLoaded tables place = option_map (λ table. table.schema) (find_table tables place.table) ≡ Some place.schema
+
+-- each number stands for one version, and is below the next one
+pub record AreNumbered (next : ℕ) (versions : List Version) : Type 0 where
+  pub version_of : ℕ → Version
+  pub one_each : All (λ version. version_of version.number ≡ version) versions
+  pub before : All (λ version. version.number < next) versions
 
 -- a catalog, beside the versions that cursors hold
 pub record IsCatalog (held : List Version) (catalog : Catalog) : Type 0 where

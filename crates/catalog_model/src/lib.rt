@@ -10,6 +10,8 @@
 pub const TABLE_LIMIT: usize = 64;
 /// The most statements that are kept.
 pub const STATEMENT_LIMIT: usize = 256;
+/// The most cursors that are open at once.
+pub const CURSOR_LIMIT: usize = 16;
 /// The most cells that are kept, 2^23, all versions together: some 256 MiB of values.
 pub const HELD_CELL_LIMIT: usize = 8388608;
 /// The most bytes of the files of the versions that are kept, 2^28: a bound on the texts in their cells.
