@@ -1,5 +1,5 @@
 -- The ends of an instance.
-use Rattle.std.proofs.Common.{ℕ, ◌≡◌, ◌∙◌, List, [], Option, Some, None, Ok, Err, ap, sym, refl, subst}
+use Rattle.std.proofs.Common.{ℕ, ◌≡◌, ◌∙◌, List, Option, Some, None, Ok, Err, ap, sym, refl, subst}
 use Rattle.row_values.specs.Names.{canonical_name}
 use Rattle.row_values.specs.Statements.{Statement, kinds_of}
 use Rattle.row_values.specs.declared.refusals.Refusal.{Refusal}
@@ -8,7 +8,7 @@ use Rattle.row_values.specs.Refusals.{unknown_statement, wide}
 use Rattle.plan_trees.specs.Statistics.{IsSoundStats, IsSoundVector, Statistics}
 use Rattle.statement_meaning.specs.Vectors.{vector_of}
 use Rattle.statement_statistics.specs.Statistics.{first_wide}
-use Rattle.catalog_model.specs.Catalogs.{Catalog, find_statement, number_of, stats_now, tables_of}
+use Rattle.catalog_model.specs.Catalogs.{Catalog, Version, find_statement, number_of, stats_now, tables_of}
 use Rattle.catalog_model.specs.Instances.{Instance, alias_at, args_refusal, instance_in, instance_of, refused_or}
 use Rattle.catalog_model.specs.Instances.{width_refusal}
 use Rattle.catalog_model.specs.Sound.{IsCatalog}
@@ -68,12 +68,14 @@ narrow_is (Some place) stats found e = absurd cc
 
 -- an instance that is told of a sound catalog
 pub told : (catalog : Catalog) (name : List ℕ) (args : List Value) (q : Statement) (made : stored.Instance)
-    → IsCatalog [] catalog → instance_of catalog name args ≡ Ok (record { statement = q; args = args })
-    → number_of catalog.statements name ≡ Some made.statement → IsNumber catalog q made.statement → made.stats ≡ stats_now catalog.tables catalog.weights q
+    (held : List Version) → IsCatalog held catalog
+    → instance_of catalog name args ≡ Ok (record { statement = q; args = args })
+    → number_of catalog.statements name ≡ Some made.statement → IsNumber catalog q made.statement
+    → made.stats ≡ stats_now catalog.tables catalog.weights q
     → made.at ≡ vector_of q (tables_of catalog.tables q) args
     → IsInstance name (instance_of catalog name args) catalog args made
-told catalog name args q made sound is named number stats vector =
-    let known = measured [] catalog name args (record { statement = q; args = args }) sound is in
+told catalog name args q made held sound is named number stats vector =
+    let known = measured held catalog name args (record { statement = q; args = args }) sound is in
     let good_vector : IsSoundVector q made.stats (vector_of q (tables_of catalog.tables q) args) =
     subst (λ (s : Statistics). IsSoundVector q s (vector_of q (tables_of catalog.tables q) args)) (sym stats)
     known.vector in

@@ -130,52 +130,43 @@ shared_set (entry ∷ entries) (suc column) made =
 
 -- What is made of a table.
 
-pub first_sound : (content table : TableValue) (bytes number : ℕ) (entries : List (Option (Rc IndexValue Global)))
-    → content ≡ table → indexes_in entries ≡ map (λ column. None) table.schema
-    → IsIndexed (held_table content bytes number entries)
-first_sound content table bytes number entries same none =
-    let version : Version = record { content = table; bytes = bytes; number = number } in
-    let is : held_table content bytes number entries ≡ unindexed version =
-    ap₂ (λ (c : TableValue) (es : List (Option IndexValue)). let h : HeldTable = record {
-      version = record { content = c; bytes = bytes; number = number };
-      indexes = es;
-    } in h) same none in
+pub first_sound : (version : Version) (entries : List (Option (Rc IndexValue Global)))
+    → indexes_in entries ≡ map (λ column. None) version.content.schema → IsIndexed (held_table version entries)
+first_sound version entries none =
+    let is : held_table version entries ≡ unindexed version =
+    ap (λ (es : List (Option IndexValue)). let h : HeldTable = record { version = version; indexes = es } in h) none in
     subst IsIndexed (sym is) (unindexed_sound version)
 
-pub next_sound : (content table : TableValue) (bytes number : ℕ) (entries : List (Option (Rc IndexValue Global)))
-    (before : List (Option IndexValue)) → content ≡ table → flags_of (indexes_in entries) ≡ flags_of before
-    → length before ≡ length table.schema → AreBuilt table (indexes_in entries)
-    → IsIndexed (held_table content bytes number entries)
-next_sound content table bytes number entries before same flags many built =
+pub next_sound : (version : Version) (entries : List (Option (Rc IndexValue Global)))
+    (before : List (Option IndexValue)) → flags_of (indexes_in entries) ≡ flags_of before
+    → length before ≡ length version.content.schema → AreBuilt version.content (indexes_in entries)
+    → IsIndexed (held_table version entries)
+next_sound version entries before flags many built =
     let is : length (indexes_in entries) ≡ length before =
     sym (length-map (indexes_in entries) (λ entry. is_some entry))
     ∙ (ap (λ (fs : List Bool). length fs) flags ∙ length-map before (λ entry. is_some entry)) in
-    let sound : IsIndexed (held_table table bytes number entries) =
-    record { one_each = is ∙ many; built = built } in
-    subst (λ (t : TableValue). IsIndexed (held_table t bytes number entries)) (sym same) sound
+    record { one_each = is ∙ many; built = built }
 
-pub set_sound : (held : HeldTable) (content : TableValue) (bytes number column : ℕ) (made : Rc IndexValue Global)
-    (entries before : List (Option (Rc IndexValue Global))) → IsIndexed held → content ≡ held.version.content
+pub set_sound : (held : HeldTable) (version : Version) (column : ℕ) (made : Rc IndexValue Global)
+    (entries before : List (Option (Rc IndexValue Global))) → IsIndexed held → version ≡ held.version
     → indexes_in before ≡ held.indexes → entries ≡ set before column (Some made)
-    → IsBuilt held.version.content column made.value → IsIndexed (held_table content bytes number entries)
-set_sound held content bytes number column made entries before sound same old e built =
+    → IsBuilt held.version.content column made.value → IsIndexed (held_table version entries)
+set_sound held version column made entries before sound same old e built =
     let is : indexes_in entries ≡ set held.indexes column (Some made.value) =
     ap (λ (es : List (Option (Rc IndexValue Global))). indexes_in es) e
     ∙ (shared_set before column made
     ∙ ap (λ (es : List (Option IndexValue)). set es column (Some made.value)) old) in
     let there : HeldTable = record {
-      version = record { content = held.version.content; bytes = bytes; number = number };
+      version = held.version;
       indexes = set held.indexes column (Some made.value);
     } in
     let here : IsIndexed there = record {
       one_each = length-set held.indexes column (Some made.value) ∙ sound.one_each;
       built = built_set held.version.content held.indexes column made.value sound.built built;
     } in
-    let made_is : held_table content bytes number entries ≡ there =
-    ap₂ (λ (c : TableValue) (es : List (Option IndexValue)). let h : HeldTable = record {
-      version = record { content = c; bytes = bytes; number = number };
-      indexes = es;
-    } in h) same is in
+    let made_is : held_table version entries ≡ there =
+    ap₂ (λ (v : Version) (es : List (Option IndexValue)). let h : HeldTable = record { version = v; indexes = es } in h)
+    same is in
     subst IsIndexed (sym made_is) here
 
 pub set_flags : (held : HeldTable) (column : ℕ) (made : Rc IndexValue Global)

@@ -1,24 +1,16 @@
--- A version of a table put into the entries: what the present versions hold then.
-use Rattle.std.proofs.Common.{◌<◌, ℕ, ◌≡◌, ◌≤◌, ◌∙◌, ◌+◌, List, [], ◌∷◌, length, Some, None, ap, sym, refl, cond, Bool}
-use Rattle.std.proofs.Common.{true, false, arith, subst}
+-- A version of a table put into the entries: which versions are present then.
+use Rattle.std.proofs.Common.{ℕ, ◌≡◌, ◌∙◌, ◌+◌, ◌<◌, List, [], ◌∷◌, ◌++◌, length, map, set, nat_lt, not, cond}
+use Rattle.std.proofs.Common.{Some, None, Bool, true, false, ap, ap₂, refl, sym, subst, arith, suc}
+use Rattle.std.specs.List.{position, position_or_len}
 use Rattle.std.specs.Map.{lookup}
 use Rattle.std.specs.Str.{bytes_eq}
-use Rattle.row_values.specs.Statements.{Statement}
+use Rattle.std.proofs.lemmas.Bool.Decides.{nat_tests}
+use Rattle.std.proofs.lemmas.List.{length-map}
 use Rattle.row_values.specs.declared.columns.Column.{Column}
-use Rattle.csv_tables.specs.Tables.{IsTable, TableValue}
-use Rattle.plan_trees.specs.declared.statistics.Weights.{Weights}
-use Rattle.catalog_model.specs.Catalogs.{Catalog, TableState, Version, find_table, put_version, next_version}
-use Rattle.catalog_model.specs.Catalogs.{with_version}
-use Rattle.catalog_model.specs.Held.{cells_of, present_versions, cells_in, bytes_in, cells_held, bytes_held}
-use Rattle.catalog_model.specs.Held.{numbers_differ}
-use Rattle.catalog_model.specs.Loading.{are_same_columns, has_other_columns, limit_passed_by}
-use Rattle.catalog_model.specs.Sound.{IsCatalog}
-use Rattle.catalog_model.proofs.Loads.{kept}
-use Rattle.catalog_model.proofs.Versions.{cells_once, bytes_once, numbers_put}
-use Rattle.session_store.specs.Kept.{HeldTable, flags_of, tables_in, catalog_in, IsKept, AreTotals}
-use Rattle.session_store.specs.Measures.{measures_of}
-use Rattle.session_store.specs.declared.loading.Totals.{Totals}
-use Rattle.session_store.specs.declared.measures.Measure.{Measure}
+use Rattle.catalog_model.specs.Catalogs.{TableState, Version, put_version}
+use Rattle.catalog_model.specs.Held.{present_versions}
+use Rattle.catalog_model.specs.Loading.{are_same_columns}
+use Rattle.session_store.specs.Kept.{HeldTable, flags_of, tables_in}
 use Rattle.session_store.proofs.Entries.{length-tables_in}
 
 -- an entry as a table, with its own version and with another
@@ -28,149 +20,106 @@ table_at e = record { name = e.0; now = e.1.version; indexed = flags_of e.1.inde
 abbrev renewed : List ℕ × HeldTable → Version → TableState
 renewed e version = record { name = e.0; now = version; indexed = flags_of e.1.indexes }
 
--- What the versions hold.
-
-pub record Grown (ts : List TableState) (version : Version) (cells bytes more : ℕ)
-    (put : List TableState) : Type 0 where
-  pub count : length put ≡ length ts + more
-  pub cell_count : cells_in (present_versions put) + cells ≡ cells_in (present_versions ts) + cells_of version.content
-  pub byte_count : bytes_in (present_versions put) + bytes ≡ bytes_in (present_versions ts) + version.bytes
-  pub cells_there : cells ≤ cells_in (present_versions ts)
-  pub bytes_there : bytes ≤ bytes_in (present_versions ts)
-
-absent_by : (test : Bool) (e : List ℕ × HeldTable) (es : List (List ℕ × HeldTable)) (name : List ℕ) (version : Version)
-    → cond test (Some e.1) (lookup (λ k. bytes_eq name k) es) ≡ None →
-    (lookup (λ k. bytes_eq name k) es ≡ None
-    → Grown (tables_in es) version 0 0 1 (put_version (tables_in es) name version)) →
-    Grown (table_at e ∷ tables_in es) version 0 0 1
-    (cond test (renewed e version ∷ tables_in es)
+-- a version of a name that has no entry goes behind the others
+last_by : (test : Bool) (e : List ℕ × HeldTable) (es : List (List ℕ × HeldTable)) (name : List ℕ) (version : Version)
+    → cond test (Some e.1) (lookup (λ k. bytes_eq name k) es) ≡ None
+    → (lookup (λ k. bytes_eq name k) es ≡ None
+    → present_versions (put_version (tables_in es) name version) ≡ present_versions (tables_in es) ++ version ∷ [])
+    → present_versions (cond test (renewed e version ∷ tables_in es)
     (table_at e ∷ put_version (tables_in es) name version))
-absent_by true e es name version h later = absurd cc
-absent_by false e es name version h later =
-    let g = later h in
-    let a = g.count in let b = g.cell_count in let c = g.byte_count in
-    record {
-      count = omega arith;
-      cell_count = omega arith;
-      byte_count = omega arith;
-      cells_there =
-          omega arith;
-      bytes_there = omega arith;
-    }
+    ≡ e.1.version ∷ (present_versions (tables_in es) ++ version ∷ [])
+last_by true e es name version none later = absurd cc
+last_by false e es name version none later = ap (λ (vs : List Version). e.1.version ∷ vs) (later none)
 
-pub absent : (es : List (List ℕ × HeldTable)) (name : List ℕ) (version : Version)
-    → lookup (λ k. bytes_eq name k) es ≡ None → Grown (tables_in es) version 0 0 1 (put_version (tables_in es) name version)
-absent [] name version h =
-    record {
-      count = refl;
-      cell_count = omega arith;
-      byte_count = omega arith;
-      cells_there = omega arith;
-      bytes_there =
-          omega arith;
-    }
-absent (e ∷ es) name version h = absent_by (bytes_eq name e.0) e es name version h (absent es name version)
+put_last : (es : List (List ℕ × HeldTable)) (name : List ℕ) (version : Version)
+    → lookup (λ k. bytes_eq name k) es ≡ None
+    → present_versions (put_version (tables_in es) name version) ≡ present_versions (tables_in es) ++ version ∷ []
+put_last [] name version none = refl
+put_last (e ∷ es) name version none =
+    last_by (bytes_eq name e.0) e es name version none (put_last es name version)
 
-present_by : (test : Bool) (e : List ℕ × HeldTable) (es : List (List ℕ × HeldTable)) (name : List ℕ) (version : Version)
-    (held : HeldTable) → cond test (Some e.1) (lookup (λ k. bytes_eq name k) es) ≡ Some held →
-    (lookup (λ k. bytes_eq name k) es ≡ Some held
-    → Grown (tables_in es) version (cells_of held.version.content) held.version.bytes 0
-    (put_version (tables_in es) name version)) →
-    Grown (table_at e ∷ tables_in es) version (cells_of held.version.content) held.version.bytes 0
-    (cond test (renewed e version ∷ tables_in es)
+-- the present versions with a copy of it pushed
+pub pushed_last : (es : List (List ℕ × HeldTable)) (ts : List TableState) (name : List ℕ) (version copied : Version)
+    (before after : List Version) → tables_in es ≡ ts → lookup (λ k. bytes_eq name k) es ≡ None
+    → before ≡ present_versions ts → after ≡ before ++ copied ∷ [] → copied ≡ version
+    → after ≡ present_versions (put_version ts name version)
+pushed_last es ts name version copied before after view none were e same =
+    e ∙ (ap₂ (λ (vs : List Version) (v : Version). vs ++ v ∷ [])
+    (were ∙ sym (ap (λ (all : List TableState). present_versions all) view)) same
+    ∙ (sym (put_last es name version none)
+    ∙ ap (λ (all : List TableState). present_versions (put_version all name version)) view))
+
+-- a version of a name that has an entry takes the place of the one there
+place_of : List ℕ → List (List ℕ × HeldTable) → ℕ
+place_of name es = position_or_len (λ k. bytes_eq name k) (map (λ (e : List ℕ × HeldTable). e.0) es)
+
+one_on : {X : Type 0} (x y : X) (xs : List X) (n : ℕ) → set (x ∷ xs) (1 + n) y ≡ x ∷ set xs n y
+one_on {X = X} x y xs n =
+    let e : 1 + n ≡ suc n = omega arith in
+    ap (λ (m : ℕ). set (x ∷ xs) m y) e
+
+there_by : (test : Bool) (e : List ℕ × HeldTable) (es : List (List ℕ × HeldTable)) (name : List ℕ)
+    (version : Version) (place : ℕ) → cond (not test) (1 + place) 0 < suc (length es)
+    → (place < length es → present_versions (put_version (tables_in es) name version)
+    ≡ set (present_versions (tables_in es)) place version)
+    → present_versions (cond test (renewed e version ∷ tables_in es)
     (table_at e ∷ put_version (tables_in es) name version))
-present_by true e es name version held h later =
-    let same : e.1 ≡ held = cc in
-    let a : cells_of e.1.version.content ≡ cells_of held.version.content =
-    ap (λ (x : HeldTable). cells_of x.version.content) same in
-    let b : e.1.version.bytes ≡ held.version.bytes = ap (λ (x : HeldTable). x.version.bytes) same in
-    record {
-      count = omega arith;
-      cell_count = omega arith;
-      byte_count = omega arith;
-      cells_there =
-          omega arith;
-      bytes_there = omega arith;
-    }
-present_by false e es name version held h later =
-    let g = later h in
-    let a = g.count in let b = g.cell_count in let c = g.byte_count in let d = g.cells_there in let f = g.bytes_there in
-    record {
-      count = omega arith;
-      cell_count = omega arith;
-      byte_count = omega arith;
-      cells_there =
-          omega arith;
-      bytes_there = omega arith;
-    }
+    ≡ set (e.1.version ∷ present_versions (tables_in es)) (cond (not test) (1 + place) 0) version
+there_by true e es name version place less later = refl
+there_by false e es name version place less later =
+    ap (λ (vs : List Version). e.1.version ∷ vs) (later (omega (arith, less)))
+    ∙ sym (one_on e.1.version version (present_versions (tables_in es)) place)
 
-pub present : (es : List (List ℕ × HeldTable)) (name : List ℕ) (version : Version) (held : HeldTable)
-    → lookup (λ k. bytes_eq name k) es ≡ Some held →
-    Grown (tables_in es) version (cells_of held.version.content) held.version.bytes 0
-    (put_version (tables_in es) name version)
-present [] name version held h = absurd cc
-present (e ∷ es) name version held h =
-    present_by (bytes_eq name e.0) e es name version held h (present es name version held)
+put_there : (es : List (List ℕ × HeldTable)) (name : List ℕ) (version : Version) → place_of name es < length es
+    → present_versions (put_version (tables_in es) name version)
+    ≡ set (present_versions (tables_in es)) (place_of name es) version
+unfolding place_of
+put_there [] name version less = absurd (omega (arith, less))
+put_there (e ∷ es) name version less =
+    there_by (bytes_eq name e.0) e es name version (place_of name es) less (put_there es name version)
 
--- what the counts of a store are, as plain sums over its tables
-pub record Counted (es : List (List ℕ × HeldTable)) (cells bytes : ℕ) : Type 0 where
-  pub cells_are : cells ≡ cells_in (present_versions (tables_in es))
-  pub bytes_are : bytes ≡ bytes_in (present_versions (tables_in es))
+put_at : (es : List (List ℕ × HeldTable)) (name : List ℕ) (version : Version) (number : ℕ)
+    → Some number ≡ position (λ k. bytes_eq name k) (map (λ (e : List ℕ × HeldTable). e.0) es)
+    → present_versions (put_version (tables_in es) name version)
+    ≡ set (present_versions (tables_in es)) number version
+unfolding place_of
+put_at es name version number found =
+    by_test (nat_lt (place_of name es) (length (map (λ (e : List ℕ × HeldTable). e.0) es))) refl found
+  where
+    keys : (es : List (List ℕ × HeldTable)) → length (map (λ (e : List ℕ × HeldTable). e.0) es) ≡ length es
+    keys [] = refl
+    keys (e ∷ es) = ap suc (keys es)
 
-pub counted : (es : List (List ℕ × HeldTable)) (ss : List (List ℕ × Statement)) (versions : ℕ) (weights : Weights)
-    (measures : List Measure) (cells bytes : ℕ) → IsKept (catalog_in es ss versions weights) measures cells bytes
-    → Counted es cells bytes
-counted es ss versions weights measures cells bytes k = record {
-  cells_are = k.cell_count ∙ cells_once (present_versions (tables_in es)) k.sound.version_numbers;
-  bytes_are = k.byte_count ∙ bytes_once (present_versions (tables_in es)) k.sound.version_numbers;
-}
+    by_test : (test : Bool) → nat_lt (place_of name es) (length (map (λ (e : List ℕ × HeldTable). e.0) es)) ≡ test
+        → Some number ≡ cond test (Some (place_of name es)) None
+        → present_versions (put_version (tables_in es) name version)
+        ≡ set (present_versions (tables_in es)) number version
+    by_test false e found = absurd cc
+    by_test true e found =
+        let is : place_of name es ≡ number = cc in
+        let within : place_of name es < length (map (λ (e : List ℕ × HeldTable). e.0) es) = grind (arith, nat_tests) in
+        let less : place_of name es < length es = subst (λ n. place_of name es < n) (keys es) within in
+        put_there es name version less
+        ∙ ap (λ (n : ℕ). set (present_versions (tables_in es)) n version) is
 
--- the totals with a version that is put
-pub totals_after : (now : Catalog) (es : List (List ℕ × HeldTable)) (name : List ℕ) (content : TableValue)
-    (length_in_bytes : ℕ) (totals : Totals) (cells bytes more : ℕ) → tables_in es ≡ now.tables → IsCatalog [] now →
-    Grown (tables_in es) (next_version now content length_in_bytes) cells bytes more
-    (put_version (tables_in es) name (next_version now content length_in_bytes)) →
-    totals.tables ≡ length es + more
-    → totals.cells + cells ≡ cells_in (present_versions (tables_in es)) + cells_of content
-    → totals.bytes + bytes ≡ bytes_in (present_versions (tables_in es)) + length_in_bytes →
-    AreTotals totals (put_version now.tables name (next_version now content length_in_bytes))
-totals_after now es name content length_in_bytes totals cells bytes more view sound g a b c =
-    let version : Version = next_version now content length_in_bytes in
-    let put : List TableState = put_version (tables_in es) name version in
-    let e : put ≡ put_version now.tables name version = ap (λ (x : List TableState). put_version x name version) view in
-    let differ : numbers_differ (present_versions (put_version now.tables name version)) ≡ true =
-    numbers_put now.tables name version sound.numbered sound.version_numbers in
-    let l = length-tables_in es in
-    let n : length put ≡ length (put_version now.tables name version) = ap length e in
-    let m : cells_in (present_versions put) ≡ cells_in (present_versions (put_version now.tables name version)) =
-    ap (λ (x : List TableState). cells_in (present_versions x)) e in
-    let o : bytes_in (present_versions put) ≡ bytes_in (present_versions (put_version now.tables name version)) =
-    ap (λ (x : List TableState). bytes_in (present_versions x)) e in
-    let mc : cells_held (present_versions (put_version now.tables name version)) ≡ cells_in
-    (present_versions (put_version now.tables name version)) = cells_once _ differ in
-    let oc : bytes_held (present_versions (put_version now.tables name version)) ≡ bytes_in
-    (present_versions (put_version now.tables name version)) = bytes_once _ differ in
-    let gc = g.count in let gd = g.cell_count in let gb = g.byte_count in
-    record { tables_held = omega arith; cells = omega arith; bytes = omega arith }
+-- the present versions with a copy of it set
+pub set_there : (es : List (List ℕ × HeldTable)) (ts : List TableState) (name : List ℕ) (version copied : Version)
+    (before : List Version) (number : ℕ) → tables_in es ≡ ts
+    → Some number ≡ position (λ k. bytes_eq name k) (map (λ (e : List ℕ × HeldTable). e.0) es)
+    → before ≡ present_versions ts → copied ≡ version
+    → set before number copied ≡ present_versions (put_version ts name version)
+set_there es ts name version copied before number view found were same =
+    ap₂ (λ (vs : List Version) (v : Version). set vs number v)
+    (were ∙ sym (ap (λ (all : List TableState). present_versions all) view)) same
+    ∙ (sym (put_at es name version number found)
+    ∙ ap (λ (all : List TableState). present_versions (put_version all name version)) view)
 
--- the invariant after it
-pub kept_after : (now after : Catalog) (name : List ℕ) (content : TableValue) (bytes : ℕ) (totals : Totals)
-    (measures : List Measure) → IsCatalog [] now → after ≡ with_version now name (next_version now content bytes)
-    → IsTable content →
-    has_other_columns (find_table now.tables name) content ≡ false
-    → AreTotals totals (put_version now.tables name (next_version now content bytes)) →
-    limit_passed_by [] (put_version now.tables name (next_version now content bytes)) ≡ None
-    → measures ≡ measures_of (put_version now.tables name (next_version now content bytes)) now.weights now.statements
-    → IsKept after measures totals.cells totals.bytes
-kept_after now after name content bytes totals measures sound e table columns are limits measured =
-    subst (λ (k : Catalog). IsKept k measures totals.cells totals.bytes) (sym e)
-    (record {
-      cell_count = are.cells;
-      byte_count = are.bytes;
-      measured = measured;
-      sound =
-          kept [] now name (next_version now content bytes) sound refl table columns limits;
-    })
+-- as many are present as there are entries
+pub as_many : (es : List (List ℕ × HeldTable)) (ts : List TableState) (before : List Version) → tables_in es ≡ ts
+    → before ≡ present_versions ts → length before ≡ length es
+as_many es ts before view were =
+    ap (λ (vs : List Version). length vs) (were ∙ sym (ap (λ (all : List TableState). present_versions all) view))
+    ∙ (length-map (tables_in es) (λ (t : TableState). t.now) ∙ length-tables_in es)
 
 -- no column of the one
 pub uneven : (xs ys : List Column) → length ys ≡ 0 → 0 < length xs → are_same_columns xs ys ≡ false

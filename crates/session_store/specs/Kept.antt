@@ -1,7 +1,6 @@
--- What a store keeps, as the catalog that contracts see.
-use Rattle.std.specs.Prelude.{ℕ, ◌≡◌, ◌<◌, ◌||◌, List, [], ◌∷◌, ◌++◌, length, map, slice_get, All, Bool, false, Option}
-use Rattle.std.specs.Prelude.{None, Some, is_some, if◌then◌else◌}
-use Rattle.std.specs.Prelude.{IfSome}
+-- What a store keeps, as the catalog and the cursors that contracts see.
+use Rattle.std.specs.Prelude.{ℕ, ◌≡◌, ◌<◌, ◌≤◌, List, [], ◌∷◌, ◌++◌, length, map, slice_get, All, Bool, Option}
+use Rattle.std.specs.Prelude.{None, Some, IfSome, IsTrue, is_some, if◌then◌else◌}
 use Rattle.std.specs.Str.{bytes_eq}
 use Rattle.std.specs.declared.alloc.Global.{Global}
 use Rattle.std.specs.declared.rc.Rc.{Rc}
@@ -12,11 +11,12 @@ use Rattle.plan_trees.specs.declared.statistics.Weights.{Weights}
 use Rattle.table_index.specs.Indexes.{IndexValue, IsBuilt}
 use Rattle.table_index.specs.StatementIndexes.{indexes_in, mask_of}
 use Rattle.selectivity_counts.specs.Kept.{distinct_counts}
-use Rattle.catalog_model.specs.Catalogs.{Catalog, TableState, StatementState, Version, find_table, flags_named}
-use Rattle.catalog_model.specs.Held.{present_versions, cells_held, bytes_held}
-use Rattle.catalog_model.specs.Sound.{IsCatalog}
+use Rattle.catalog_model.specs.declared.TheConstants.{CURSOR_LIMIT}
+use Rattle.catalog_model.specs.Catalogs.{Catalog, TableState, StatementState, Version, empty_catalog, find_table}
+use Rattle.catalog_model.specs.Catalogs.{flags_named}
+use Rattle.catalog_model.specs.Held.{HeldCursor, cursors_differ, held_by, present_versions}
+use Rattle.catalog_model.specs.Sound.{AreNumbered, IsCatalog}
 use Rattle.session_store.specs.Measures.{measures_of}
-use Rattle.session_store.specs.declared.loading.Totals.{Totals}
 use Rattle.session_store.specs.declared.measures.Measure.{Measure}
 
 -- a table that is held: its present version, and for each column its index, where there is one
@@ -28,12 +28,13 @@ pub record HeldTable : Type 0 where
 abbrev pub flags_of : List (Option IndexValue) → List Bool
 flags_of indexes = map (λ entry. is_some entry) indexes
 
+-- a version, in its parts
+abbrev pub table_version : TableValue → ℕ → ℕ → Version
+table_version content bytes number = record { content = content; bytes = bytes; number = number }
+
 -- what is held, in its parts
-abbrev pub held_table : TableValue → ℕ → ℕ → List (Option (Rc IndexValue Global)) → HeldTable
-held_table content bytes number entries = record {
-  version = record { content = content; bytes = bytes; number = number };
-  indexes = indexes_in entries;
-}
+abbrev pub held_table : Version → List (Option (Rc IndexValue Global)) → HeldTable
+held_table version entries = record { version = version; indexes = indexes_in entries }
 
 -- a version of a new table, which has no index
 abbrev pub unindexed : Version → HeldTable
@@ -71,19 +72,31 @@ catalog_in tables statements versions weights = record {
   weights = weights;
 }
 
--- the counts are those of the present versions, the measures are those of the statements, and the catalog is sound; no
--- cursor holds a version yet
-pub record IsKept (catalog : Catalog) (measures : List Measure) (cells bytes : ℕ) : Type 0 where
-  pub cell_count : cells ≡ cells_held (present_versions catalog.tables)
-  pub byte_count : bytes ≡ bytes_held (present_versions catalog.tables)
-  pub measured : measures ≡ measures_of catalog.tables catalog.weights catalog.statements
-  pub sound : IsCatalog [] catalog
+-- a cursor, in its parts
+abbrev pub held_cursor : List ℕ → List Version → HeldCursor
+held_cursor name held = record { name = name; held = held }
 
--- these are the numbers of the tables, of their cells and of their bytes
-pub record AreTotals (totals : Totals) (tables : List TableState) : Type 0 where
-  pub tables_held : totals.tables ≡ length tables
-  pub cells : totals.cells ≡ cells_held (present_versions tables)
-  pub bytes : totals.bytes ≡ bytes_held (present_versions tables)
+-- the catalog, and the open cursors in the order in which they came
+pub record StoreState : Type 0 where
+  pub catalog : Catalog
+  pub cursors : List HeldCursor
+
+abbrev pub empty_state : Weights → StoreState
+empty_state weights = record { catalog = empty_catalog weights; cursors = [] }
+
+abbrev pub state_in : List (List ℕ × HeldTable) → List (List ℕ × Statement) → ℕ → Weights → List HeldCursor
+    → StoreState
+state_in tables statements versions weights cursors =
+    record { catalog = catalog_in tables statements versions weights; cursors = cursors }
+
+-- the measures are those of the statements, the catalog is sound beside what the cursors hold, each number of a version
+-- stands for one, and the cursors' names differ and are few
+pub record IsKept (state : StoreState) (measures : List Measure) : Type 0 where
+  pub measured : measures ≡ measures_of state.catalog.tables state.catalog.weights state.catalog.statements
+  pub sound : IsCatalog (held_by state.cursors) state.catalog
+  pub numbered : AreNumbered state.catalog.versions (held_by state.cursors ++ present_versions state.catalog.tables)
+  pub cursor_names : IsTrue (cursors_differ state.cursors)
+  pub few_cursors : length state.cursors ≤ CURSOR_LIMIT
 
 -- The tables of a statement's places.
 

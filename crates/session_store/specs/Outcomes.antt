@@ -1,5 +1,6 @@
 -- What the calls of a store answer, and what they leave.
-use Rattle.std.specs.Prelude.{ℕ, ◌≡◌, ◌<◌, List, length, slice_get, Some, Result, Ok, Err}
+use Rattle.std.specs.Prelude.{ℕ, ◌≡◌, ◌<◌, List, [], ◌∷◌, ◌++◌, length, slice_get, Bool, true, false, Option, Some}
+use Rattle.std.specs.Prelude.{None, Result, Ok, Err}
 use Rattle.std.specs.Option.{option_map}
 use Rattle.row_values.specs.Statements.{Statement}
 use Rattle.row_values.specs.declared.refusals.Refusal.{Refusal}
@@ -10,7 +11,9 @@ use Rattle.statement_meaning.specs.Vectors.{vector_of}
 use Rattle.catalog_model.specs.Catalogs.{Catalog, Version, stats_now, tables_of, with_index, with_statement}
 use Rattle.catalog_model.specs.Catalogs.{number_of, with_version}
 use Rattle.catalog_model.specs.Faults.{bind_refusal}
+use Rattle.catalog_model.specs.Held.{is_open, without_cursor}
 use Rattle.catalog_model.specs.Instances.{Instance}
+use Rattle.session_store.specs.Kept.{StoreState}
 use Rattle.session_store.specs.declared.faults.StoreFault.{StoreFault}
 use Rattle.session_store.specs.declared.faults.StoreFault.TheVariants.{Refused, Memory}
 use Rattle.session_store.specs.declared.instances.Instance as stored
@@ -88,3 +91,23 @@ abbrev pub Instantiates : List ℕ → Result Instance Refusal → Catalog → L
     → Type 0
 Instantiates name wanted catalog args (Ok told) = IsInstance name wanted catalog args told
 Instantiates name wanted catalog args (Err fault) = Says wanted fault
+
+-- Cursors.
+
+-- a cursor may be opened; or its refusal, or want of memory
+abbrev pub Allows : Option Refusal → Result (Unit {0}) StoreFault → Type 0
+Allows refusal (Ok done) = refusal ≡ None
+Allows refusal (Err (Refused why)) = refusal ≡ Some why
+Allows refusal (Err Memory) = Unit {0}
+
+-- a cursor that holds these versions stands behind the others, or memory was short and nothing changed
+abbrev pub Holds : {E : Type 0} → StoreState → List ℕ → List Version → Result (Unit {0}) E → StoreState → Type 0
+Holds old name held (Ok done) new =
+    new ≡ record old { cursors = old.cursors ++ record { name = name; held = held } ∷ [] }
+Holds old name held (Err fault) new = new ≡ old
+
+-- the cursor was open and is there no more, or it wasn't and nothing changed
+abbrev pub Closes : StoreState → List ℕ → Bool → StoreState → Type 0
+Closes old name true new =
+    (is_open name old.cursors ≡ true) × (new ≡ record old { cursors = without_cursor name old.cursors })
+Closes old name false new = (is_open name old.cursors ≡ false) × (new ≡ old)

@@ -12,6 +12,7 @@ ghost use Rattle.table_index.specs.StatementIndexes.{indexes_in};
 ghost use Rattle.selectivity_counts.specs.Kept.{AreDistinctsOf, distinct_counts};
 ghost use Rattle.session_store.specs.Kept.{AreBuilt, IsIndexed, contents_of, entries_of, flags_of, unindexed};
 
+use crate::version::TableVersion;
 use csv_tables::Table;
 use row_values::{Column, OutOfMemory};
 use selectivity_counts::Distincts;
@@ -20,13 +21,10 @@ use std::marker::Model;
 use std::rc::Rc;
 use table_index::Index;
 
-/// A version of a table: the table, the length of its file, its number, and for each column its index, where there is
-/// one.
+/// A version of a table, and for each column its index, where there is one.
 #[derive(Debug, Drop)]
 pub struct Held {
-    table: Rc<Table>,
-    bytes: usize,
-    number: u64,
+    version: TableVersion,
     indexes: Rc<Vec<Option<Rc<Index>>>>,
     /// The distinct counts of the columns, once a statement reads the table.
     distincts: Option<Rc<Distincts>>,
@@ -37,10 +35,9 @@ impl Model for Held {
 
     ghost Value = { HeldTable };
 
-    ghost view = { λ h. held_table h.table.value h.bytes h.number h.indexes.value.items };
+    ghost view = { λ h. held_table h.version h.indexes.value.items };
 
-    ghost invariant = { λ h. IsHeldTable (held_table h.table.value h.bytes h.number h.indexes.value.items)
-        h.distincts };
+    ghost invariant = { λ h. IsHeldTable (held_table h.version h.indexes.value.items) h.distincts };
 }
 
 impl Clone for Held {
@@ -50,9 +47,7 @@ impl Clone for Held {
 
     fn clone(&self) -> Result<Held, OutOfMemory> {
         Ok(Held {
-            table: self.table.clone()?,
-            bytes: self.bytes,
-            number: self.number,
+            version: self.version.clone()?,
             indexes: self.indexes.clone()?,
             distincts: self.distincts.clone()?,
         })
@@ -136,20 +131,12 @@ fn push_entries(
 
 impl Held {
     /// The first version of a table: no column has an index.
-    pub fn first(
-        alloc: Global,
-        table: Table,
-        bytes: usize,
-        number: u64,
-    ) -> Result<Held, OutOfMemory>
-        ensures { IfOk result (λ held. held
-            ≡ unindexed (record { content = table; bytes = bytes; number = number })) }
+    pub fn first(alloc: Global, version: TableVersion) -> Result<Held, OutOfMemory>
+        ensures { IfOk result (λ held. held ≡ unindexed version) }
     {
-        let indexes = no_indexes(alloc, table.schema().columns())?;
+        let indexes = no_indexes(alloc, version.table().schema().columns())?;
         Ok(Held {
-            table: Rc::new(alloc, table)?,
-            bytes,
-            number,
+            version,
             indexes: Rc::new(alloc, indexes)?,
             distincts: None,
         })
@@ -157,24 +144,15 @@ impl Held {
 
     /// The next version of this table: the columns that had an index have one over the new rows, and where distinct
     /// counts were kept they are those of the new rows.
-    pub fn next(
-        &self,
-        alloc: Global,
-        table: Table,
-        bytes: usize,
-        number: u64,
-    ) -> Result<Held, OutOfMemory>
-        requires { length table.schema ≡ length self.now.version.content.schema }
-        ensures version { IfOk result (λ held. held.version
-            ≡ record { content = table; bytes = bytes; number = number }) }
+    pub fn next(&self, alloc: Global, version: TableVersion) -> Result<Held, OutOfMemory>
+        requires { length version.content.schema ≡ length self.now.version.content.schema }
+        ensures version { IfOk result (λ held. held.version ≡ version) }
         ensures flags { IfOk result (λ held. flags_of held.indexes ≡ flags_of self.now.indexes) }
     {
-        let indexes = rebuilt(alloc, &table, self.indexes.as_slice())?;
-        let distincts = counts_if(alloc, &table, self.distincts.is_some())?;
+        let indexes = rebuilt(alloc, version.table(), self.indexes.as_slice())?;
+        let distincts = counts_if(alloc, version.table(), self.distincts.is_some())?;
         Ok(Held {
-            table: Rc::new(alloc, table)?,
-            bytes,
-            number,
+            version,
             indexes: Rc::new(alloc, indexes)?,
             distincts,
         })
@@ -190,14 +168,12 @@ impl Held {
             let same = self.clone()?;
             return Ok(same);
         }
-        let index = Index::build(alloc, &self.table, column)?;
+        let index = Index::build(alloc, self.version.table(), column)?;
         let mut indexes = Vec::with_capacity(alloc, self.indexes.len())?;
         push_entries(&mut indexes, self.indexes.as_slice())?;
         indexes[usize::from(column)] = Some(Rc::new(alloc, index)?);
         Ok(Held {
-            table: self.table.clone()?,
-            bytes: self.bytes,
-            number: self.number,
+            version: self.version.clone()?,
             indexes: Rc::new(alloc, indexes)?,
             distincts: self.distincts.clone()?,
         })
@@ -210,7 +186,7 @@ impl Held {
         match &self.distincts {
             Some(counts) => counts.clone(),
             None => {
-                let counts = Distincts::of(alloc, &self.table)?;
+                let counts = Distincts::of(alloc, self.version.table())?;
                 Ok(Rc::new(alloc, counts)?)
             }
         }
@@ -222,9 +198,7 @@ impl Held {
     {
         let distincts = self.distincts(alloc)?;
         Ok(Held {
-            table: self.table.clone()?,
-            bytes: self.bytes,
-            number: self.number,
+            version: self.version.clone()?,
             indexes: self.indexes.clone()?,
             distincts: Some(distincts),
         })
@@ -243,25 +217,25 @@ impl Held {
         self.indexes.as_slice()[usize::from(column)].is_some()
     }
 
+    /// The version.
+    pub fn version(&self) -> &TableVersion
+        ensures { result.now ≡ self.now.version }
+    {
+        &self.version
+    }
+
     /// The table.
     pub fn table(&self) -> &Rc<Table>
         ensures { result.now.value ≡ self.now.version.content }
     {
-        &self.table
-    }
-
-    /// How long its file was.
-    pub fn bytes(&self) -> usize
-        ensures { result ≡ self.now.version.bytes }
-    {
-        self.bytes
+        self.version.table()
     }
 
     /// There is an entry for each column, and each index was built of this version.
     pub fn sound(&self)
         ensures { IsIndexed self.now }
     {
-        let _number = self.number;
+        let _version = &self.version;
     }
 }
 
@@ -271,7 +245,7 @@ pub fn tables_of(alloc: Global, held: &[Held]) -> Result<Vec<Rc<Table>>, OutOfMe
 {
     let mut tables = Vec::with_capacity(alloc, held.len())?;
     for one in held {
-        tables.push(one.table.clone()?)?;
+        tables.push(one.table().clone()?)?;
     }
     Ok(tables)
 }

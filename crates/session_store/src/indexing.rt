@@ -21,8 +21,8 @@ fn column_named(columns: &[Column], name: &Words) -> Option<usize>
 impl Store {
     /// The number of the column of this name of the table of this name.
     fn column_of(&self, table: &Words, column: &Words) -> Result<u8, StoreFault>
-        ensures wanted { Names (indexing_of self.now table.now column.now) result }
-        ensures there { IfOk result (λ number. HasColumn self.now.tables table.now number) }
+        ensures wanted { Names (indexing_of self.now.catalog table.now column.now) result }
+        ensures there { IfOk result (λ number. HasColumn self.now.catalog.tables table.now number) }
     {
         let Some(held) = self.tables.get(table) else {
             let shown = canonical_name(self.alloc, table.as_str())?;
@@ -39,9 +39,9 @@ impl Store {
 
     /// What is held of the table of this name, with this column indexed.
     fn held_indexed(&self, table: &Words, column: u8) -> Result<Held, OutOfMemory>
-        requires { HasColumn self.now.tables table.now column }
-        ensures { IfOk result (λ held. put_held self.now.tables table.now held
-            ≡ put_index self.now.tables table.now column) }
+        requires { HasColumn self.now.catalog.tables table.now column }
+        ensures { IfOk result (λ held. put_held self.now.catalog.tables table.now held
+            ≡ put_index self.now.catalog.tables table.now column) }
     {
         match self.tables.get(table) {
             Some(before) => before.with_index(self.alloc, column),
@@ -51,8 +51,9 @@ impl Store {
 
     /// Indexes this column of the table of this name.
     fn put_index(&mut self, table: &Words, column: u8) -> Result<(), StoreFault>
-        requires { HasColumn self.old.tables table.now column }
-        ensures { KeepsIndex self.old table.now column result self.new }
+        requires { HasColumn self.old.catalog.tables table.now column }
+        ensures value { KeepsIndex self.old.catalog table.now column result self.new.catalog }
+        ensures cursors { self.new.cursors ≡ self.old.cursors }
     {
         let held = self.held_indexed(table, column)?;
         let measures = self.measures_with(table, &held)?;
@@ -64,7 +65,9 @@ impl Store {
     /// Indexes the column of this name of the table of this name; a column that has an index keeps it. It is refused
     /// where there is no such table or no such column.
     pub fn add_index(&mut self, table: &Words, column: &Words) -> Result<(), StoreFault>
-        ensures { Indexes (indexing_of self.old table.now column.now) self.old table.now result self.new }
+        ensures value { Indexes (indexing_of self.old.catalog table.now column.now) self.old.catalog table.now result
+            self.new.catalog }
+        ensures cursors { self.new.cursors ≡ self.old.cursors }
     {
         let number = match self.column_of(table, column) {
             Ok(number) => number,

@@ -66,7 +66,8 @@ impl Store {
     /// The statement of this name with these arguments. It is refused where there is none, where they are more or
     /// fewer than its parameters or one is of another kind, or where the statement is wide over the present tables.
     pub fn instance(&self, name: &Words, args: &[Value]) -> Result<Instance, StoreFault>
-        ensures { Instantiates name.now (instances.instance_of self.now name.now args.now) self.now args.now result }
+        ensures { Instantiates name.now (instances.instance_of self.now.catalog name.now args.now) self.now.catalog
+            args.now result }
     {
         let Some(statement) = self.find(name) else {
             let shown = canonical_name(self.alloc, name.as_str())?;

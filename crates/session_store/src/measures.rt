@@ -84,24 +84,24 @@ fn copied(alloc: Global, measures: &[Measure]) -> Result<Vec<Measure>, OutOfMemo
 impl Store {
     /// How many statements there are.
     fn count(&self) -> u32
-        ensures { result ≡ length self.now.statements }
+        ensures { result ≡ length self.now.catalog.statements }
     {
         self.statements.len() as u32
     }
 
     /// The measure that is kept of the statement of this number.
     pub(crate) fn kept_measure(&self, statement: u32) -> &Measure
-        requires { statement < length self.now.statements }
-        ensures { (q : Bound) → option_map (λ s. s.statement) (slice_get self.now.statements statement) ≡ Some q
-            → result.now ≡ measure_of self.now.tables self.now.weights q }
+        requires { statement < length self.now.catalog.statements }
+        ensures { (q : Bound) → option_map (λ s. s.statement) (slice_get self.now.catalog.statements statement) ≡ Some q
+            → result.now ≡ measure_of self.now.catalog.tables self.now.catalog.weights q }
     {
         &self.measures.as_slice()[statement as usize]
     }
 
     /// The measure of a statement over the present tables.
     fn measured(&self, q: &Query) -> Result<Measure, OutOfMemory>
-        requires { All (IsLoaded self.now.tables) q.now.places }
-        ensures { IfOk result (λ measure. measure ≡ measure_of self.now.tables self.now.weights q.now) }
+        requires { All (IsLoaded self.now.catalog.tables) q.now.places }
+        ensures { IfOk result (λ measure. measure ≡ measure_of self.now.catalog.tables self.now.catalog.weights q.now) }
     {
         let held = self.held_of(q.places())?;
         measure_held(self.alloc, q, held.as_slice(), self.weights)
@@ -109,10 +109,10 @@ impl Store {
 
     /// The measures of the statements with this one behind them.
     pub(crate) fn measures_and(&self, q: &Query) -> Result<Vec<Measure>, OutOfMemory>
-        requires { All (IsLoaded self.now.tables) q.now.places }
+        requires { All (IsLoaded self.now.catalog.tables) q.now.places }
         ensures { IfOk result (λ measures. measures.items
-            ≡ measures_of self.now.tables self.now.weights self.now.statements
-            ++ measure_of self.now.tables self.now.weights q.now ∷ []) }
+            ≡ measures_of self.now.catalog.tables self.now.catalog.weights self.now.catalog.statements
+            ++ measure_of self.now.catalog.tables self.now.catalog.weights q.now ∷ []) }
     {
         let mut measures = copied(self.alloc, self.measures.as_slice())?;
         measures.push(self.measured(q)?)?;
@@ -121,8 +121,8 @@ impl Store {
 
     /// What is held of the table of a place once this is held under this name.
     fn held_at(&self, place: &Place, name: &Words, new: &Held) -> Result<Held, OutOfMemory>
-        requires { IsLoaded self.now.tables place.now }
-        ensures { IfOk result (λ held. IsHeldAt (put_held self.now.tables name.now new.now) place.now held) }
+        requires { IsLoaded self.now.catalog.tables place.now }
+        ensures { IfOk result (λ held. IsHeldAt (put_held self.now.catalog.tables name.now new.now) place.now held) }
     {
         if place.table == *name {
             new.sound();
@@ -146,8 +146,9 @@ impl Store {
         name: &Words,
         new: &Held,
     ) -> Result<Vec<Held>, OutOfMemory>
-        requires { All (IsLoaded self.now.tables) places.now }
-        ensures { IfOk result (λ held. AreHeld (put_held self.now.tables name.now new.now) places.now held.items) }
+        requires { All (IsLoaded self.now.catalog.tables) places.now }
+        ensures { IfOk result (λ held. AreHeld (put_held self.now.catalog.tables name.now new.now) places.now
+            held.items) }
     {
         let mut held = Vec::with_capacity(self.alloc, places.len())?;
         for place in places {
@@ -158,10 +159,10 @@ impl Store {
 
     /// The measure of a statement once this is held under this name.
     fn measured_with(&self, q: &Query, name: &Words, new: &Held) -> Result<Measure, OutOfMemory>
-        requires before { All (IsLoaded self.now.tables) q.now.places }
-        requires after { All (IsLoaded (put_held self.now.tables name.now new.now)) q.now.places }
+        requires before { All (IsLoaded self.now.catalog.tables) q.now.places }
+        requires after { All (IsLoaded (put_held self.now.catalog.tables name.now new.now)) q.now.places }
         ensures { IfOk result (λ measure. measure
-            ≡ measure_of (put_held self.now.tables name.now new.now) self.now.weights q.now) }
+            ≡ measure_of (put_held self.now.catalog.tables name.now new.now) self.now.catalog.weights q.now) }
     {
         let held = self.held_with(q.places(), name, new)?;
         measure_held(self.alloc, q, held.as_slice(), self.weights)
@@ -175,12 +176,12 @@ impl Store {
         name: &Words,
         new: &Held,
     ) -> Result<Measure, OutOfMemory>
-        requires there { statement < length self.now.statements }
-        requires after { All (λ s. All (IsLoaded (put_held self.now.tables name.now new.now)) s.statement.places)
-            self.now.statements }
-        ensures { (q : Bound) → option_map (λ s. s.statement) (slice_get self.now.statements statement) ≡ Some q
+        requires there { statement < length self.now.catalog.statements }
+        requires after { All (λ s. All (IsLoaded (put_held self.now.catalog.tables name.now new.now))
+            s.statement.places) self.now.catalog.statements }
+        ensures { (q : Bound) → option_map (λ s. s.statement) (slice_get self.now.catalog.statements statement) ≡ Some q
             → IfOk result (λ measure. measure
-            ≡ measure_of (put_held self.now.tables name.now new.now) self.now.weights q) }
+            ≡ measure_of (put_held self.now.catalog.tables name.now new.now) self.now.catalog.weights q) }
     {
         let q = self.query(statement);
         if is_read(name, q.places()) {
@@ -197,10 +198,11 @@ impl Store {
         name: &Words,
         new: &Held,
     ) -> Result<Vec<Measure>, OutOfMemory>
-        requires { All (λ s. All (IsLoaded (put_held self.now.tables name.now new.now)) s.statement.places)
-            self.now.statements }
+        requires { All (λ s. All (IsLoaded (put_held self.now.catalog.tables name.now new.now)) s.statement.places)
+            self.now.catalog.statements }
         ensures { IfOk result (λ measures. measures.items
-            ≡ measures_of (put_held self.now.tables name.now new.now) self.now.weights self.now.statements) }
+            ≡ measures_of (put_held self.now.catalog.tables name.now new.now) self.now.catalog.weights
+            self.now.catalog.statements) }
     {
         let mut measures = Vec::with_capacity(self.alloc, self.measures.len())?;
         for statement in 0..self.count() {
@@ -211,8 +213,8 @@ impl Store {
 
     /// The selectivity vector of a statement over the present tables.
     pub(crate) fn vector(&self, q: &Query, args: &[Value]) -> Result<Vector, OutOfMemory>
-        requires { All (IsLoaded self.now.tables) q.now.places }
-        ensures { IfOk result (λ at. at ≡ vector_of q.now (tables_of self.now.tables q.now) args.now) }
+        requires { All (IsLoaded self.now.catalog.tables) q.now.places }
+        ensures { IfOk result (λ at. at ≡ vector_of q.now (tables_of self.now.catalog.tables q.now) args.now) }
     {
         let held = self.held_of(q.places())?;
         let tables = held::tables_of(self.alloc, held.as_slice())?;

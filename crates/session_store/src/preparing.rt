@@ -39,7 +39,7 @@ fn bind_refusal(fault: BindFault) -> StoreFault
 impl Store {
     /// The statement over the tables that are loaded.
     fn bound(&self, select: &Select) -> Result<Query, StoreFault>
-        ensures { Binds (binding_of (schemas_of self.now.tables) select.now) result }
+        ensures { Binds (binding_of (schemas_of self.now.catalog.tables) select.now) result }
     {
         match bind(self.alloc, select, self) {
             Ok(q) => Ok(q),
@@ -49,8 +49,8 @@ impl Store {
 
     /// What is held under this name with its distinct counts, unless they are kept already.
     fn counted_at(&self, table: &Words) -> Result<Option<Held>, OutOfMemory>
-        ensures { IfOk result (λ found. IfSome found (λ held. put_held self.now.tables table.now held
-            ≡ self.now.tables)) }
+        ensures { IfOk result (λ found. IfSome found (λ held. put_held self.now.catalog.tables table.now held
+            ≡ self.now.catalog.tables)) }
     {
         match self.tables.get(table) {
             None => Ok(None),
@@ -89,10 +89,11 @@ impl Store {
 
     /// Puts a statement whose tables are loaded under a free name, behind the others.
     fn insert_statement(&mut self, name: &Words, q: Query) -> Result<(), StoreFault>
-        requires free { find_statement self.old.statements name.now ≡ None }
-        requires loaded { All (IsLoaded self.old.tables) q.places }
-        requires room { length self.old.statements < STATEMENT_LIMIT }
-        ensures { KeepsStatement self.old name.now q result self.new }
+        requires free { find_statement self.old.catalog.statements name.now ≡ None }
+        requires loaded { All (IsLoaded self.old.catalog.tables) q.places }
+        requires room { length self.old.catalog.statements < STATEMENT_LIMIT }
+        ensures value { KeepsStatement self.old.catalog name.now q result self.new.catalog }
+        ensures cursors { self.new.cursors ≡ self.old.cursors }
     {
         q.sound();
         let measures = self.measures_and(&q)?;
@@ -103,10 +104,11 @@ impl Store {
 
     /// The same, with the distinct counts of its tables kept.
     fn put_statement(&mut self, name: &Words, q: Query) -> Result<(), StoreFault>
-        requires free { find_statement self.old.statements name.now ≡ None }
-        requires loaded { All (IsLoaded self.old.tables) q.places }
-        requires room { length self.old.statements < STATEMENT_LIMIT }
-        ensures { KeepsStatement self.old name.now q result self.new }
+        requires free { find_statement self.old.catalog.statements name.now ≡ None }
+        requires loaded { All (IsLoaded self.old.catalog.tables) q.places }
+        requires room { length self.old.catalog.statements < STATEMENT_LIMIT }
+        ensures value { KeepsStatement self.old.catalog name.now q result self.new.catalog }
+        ensures cursors { self.new.cursors ≡ self.old.cursors }
     {
         self.keep_all_counts(q.places())?;
         self.insert_statement(name, q)
@@ -116,7 +118,9 @@ impl Store {
     /// statement can't be bound, or there are too many.
     #[tactic(auto, unfolding(catalog_model::specs::Preparing::preparing_of))]
     pub fn prepare(&mut self, name: &Words, select: &Select) -> Result<u32, StoreFault>
-        ensures { Prepares (preparing_of self.old name.now select.now) self.old name.now result self.new }
+        ensures value { Prepares (preparing_of self.old.catalog name.now select.now) self.old.catalog name.now result
+            self.new.catalog }
+        ensures cursors { self.new.cursors ≡ self.old.cursors }
     {
         if self.statements.contains_key(name) {
             let shown = canonical_name(self.alloc, name.as_str())?;

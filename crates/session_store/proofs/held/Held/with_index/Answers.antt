@@ -4,6 +4,7 @@ use Rattle.std.specs.declared.rc.Rc.{Rc}
 use Rattle.csv_tables.specs.Tables.{TableValue}
 use Rattle.table_index.specs.Indexes.{IndexValue, IsBuilt}
 use Rattle.table_index.specs.StatementIndexes.{indexes_in}
+use Rattle.catalog_model.specs.Catalogs.{Version}
 use Rattle.session_store.specs.Kept.{HeldTable, IsIndexed}
 use Rattle.session_store.proofs.HeldIndexes.{counted_alike, set_flags, set_sound}
 use Rattle.session_store.proofs.held.Held.with_index.Goals as goal
@@ -18,19 +19,18 @@ invariant_of-result c =
     let made : c.in_ok-new-2.field-0.value.items
     ≡ set c.push_entries.new.entries.items c.args.column (Some c.in_ok-new.field-0) =
     rw (c.in_ok-new-2.ensures.ok, c.from.ensures) refl in
-    let copied : c.in_ok-clone.field-0.value ≡ c.self.inside.table.value = search rules in
-    let content : c.self.inside.table.value ≡ c.args.self.now.version.content =
-    ap (λ (h : HeldTable). h.version.content) c.self.view_is in
+    let copied : c.in_ok-clone.field-0 ≡ c.self.inside.version = c.in_ok-clone.ensures.cases in
+    let version : c.self.inside.version ≡ c.args.self.now.version = ap (λ (h : HeldTable). h.version) c.self.view_is in
     let built : IsBuilt c.args.self.now.version.content c.args.column c.in_ok-index.index =
-    subst (λ (t : TableValue). IsBuilt t c.args.column c.in_ok-index.index) (c.deref.ensures ∙ content)
-    c.in_ok-index.ensures.built in
+    subst (λ (t : TableValue). IsBuilt t c.args.column c.in_ok-index.index)
+    (c.deref.ensures ∙ (c.table.ensures ∙ ap (λ (v : Version). v.content) version)) c.in_ok-index.ensures.built in
     record {
-      indexed = set_sound c.args.self.now c.in_ok-clone.field-0.value c.self.inside.bytes c.self.inside.number
-          c.args.column c.in_ok-new.field-0 c.in_ok-new-2.field-0.value.items c.push_entries.new.entries.items
-          (subst IsIndexed c.self.view_is c.self.invariant.indexed) (copied ∙ content) old made
+      indexed = set_sound c.args.self.now c.in_ok-clone.field-0 c.args.column c.in_ok-new.field-0
+          c.in_ok-new-2.field-0.value.items c.push_entries.new.entries.items
+          (subst IsIndexed c.self.view_is c.self.invariant.indexed) (copied ∙ version) old made
           (subst (IsBuilt c.args.self.now.version.content c.args.column) (sym c.in_ok-new.ensures.ok) built);
-      counted = counted_alike c.in_ok-clone-2.field-0 c.self.inside.table.value c.in_ok-clone.field-0.value copied
-          (search rules);
+      counted = counted_alike c.in_ok-clone-2.field-0 c.self.inside.version.content c.in_ok-clone.field-0.content
+          (ap (λ (v : Version). v.content) copied) (search rules);
     }
 
 pub returns-clause-flags : goal.returns-clause-flags

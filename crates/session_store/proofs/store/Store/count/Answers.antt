@@ -1,6 +1,5 @@
 use Rattle.std.proofs.Common.{◌≤◌, ◌∙◌, length, ap, sym, arith}
-use Rattle.catalog_model.specs.Catalogs.{Catalog}
-use Rattle.session_store.specs.Kept.{statements_in}
+use Rattle.session_store.specs.Kept.{StoreState, statements_in}
 use Rattle.session_store.proofs.Entries.{length-statements_in}
 use Rattle.session_store.proofs.store.Store.count.Goals as goal
 
@@ -14,4 +13,4 @@ overflow_cast-result c =
 pub returns : goal.returns
 returns c =
     c.len.ensures.len ∙ (sym (length-statements_in c.self.inside.statements.entries)
-    ∙ ap (λ (k : Catalog). length k.statements) c.self.view_is)
+    ∙ ap (λ (k : StoreState). length k.catalog.statements) c.self.view_is)

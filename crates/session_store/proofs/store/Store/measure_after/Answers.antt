@@ -14,4 +14,5 @@ returns c = λ q there.
     sym (ap (λ (ps : List Place). reads_table c.args.name.now ps)
     (c.places.ensures.value ∙ ap (λ (s : Statement). s.places) same)) ∙ unread in
     c.in_ok-measure-2.ensures ∙ (c.kept_measure.ensures q there
-    ∙ sym (measure_kept c.args.self.now.tables c.args.name.now c.args.new.now c.args.self.now.weights q unread_here))
+    ∙ sym (measure_kept c.args.self.now.catalog.tables c.args.name.now c.args.new.now c.args.self.now.catalog.weights q
+    unread_here))

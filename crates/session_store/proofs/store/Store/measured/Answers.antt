@@ -2,8 +2,7 @@ use Rattle.std.proofs.Common.{◌≡◌, ◌∙◌, List, IfOk, ap, ap₂, sym, 
 use Rattle.row_values.specs.declared.statement.Place.{Place}
 use Rattle.csv_tables.specs.StatementTables.{AreTablesOf, rows_in}
 use Rattle.plan_trees.specs.declared.statistics.Weights.{Weights}
-use Rattle.catalog_model.specs.Catalogs.{Catalog}
-use Rattle.session_store.specs.Kept.{AreHeld, HeldTable, contents_of, masks_in}
+use Rattle.session_store.specs.Kept.{AreHeld, HeldTable, StoreState, contents_of, masks_in}
 use Rattle.session_store.specs.Measures.{measure_of, measure_over}
 use Rattle.session_store.specs.declared.measures.Measure.{Measure}
 use Rattle.session_store.proofs.PresentTables.{columns_told, held_present, measure_told}
@@ -12,19 +11,22 @@ use Rattle.session_store.proofs.store.Store.measured.Goals as goal
 pub measure_held-requires-clause-tables : goal.measure_held-requires-clause-tables
 measure_held-requires-clause-tables c =
     subst (λ (held : List HeldTable). AreTablesOf c.args.q.now (contents_of held)) (sym c.as_slice.ensures.value)
-    (columns_told c.args.self.now.tables c.args.q.now (contents_of c.in_ok-held.held.items) c.requires
-    (held_present c.args.self.now.tables c.args.q.now c.in_ok-held.held.items
-    (subst (λ (ps : List Place). AreHeld c.args.self.now.tables ps c.in_ok-held.held.items) c.places.ensures.value
+    (columns_told c.args.self.now.catalog.tables c.args.q.now (contents_of c.in_ok-held.held.items) c.requires
+    (held_present c.args.self.now.catalog.tables c.args.q.now c.in_ok-held.held.items
+    (subst (λ (ps : List Place). AreHeld c.args.self.now.catalog.tables ps c.in_ok-held.held.items)
+    c.places.ensures.value
     c.in_ok-held.ensures)))
 
 pub returns : goal.returns
 returns c =
-    let held : AreHeld c.args.self.now.tables c.args.q.now.places c.in_ok-held.held.items =
-    subst (λ (ps : List Place). AreHeld c.args.self.now.tables ps c.in_ok-held.held.items) c.places.ensures.value
+    let held : AreHeld c.args.self.now.catalog.tables c.args.q.now.places c.in_ok-held.held.items =
+    subst (λ (ps : List Place). AreHeld c.args.self.now.catalog.tables ps c.in_ok-held.held.items)
+    c.places.ensures.value
     c.in_ok-held.ensures in
-    let is = measure_told c.args.self.now.tables c.args.q.now c.in_ok-held.held.items c.args.self.now.weights held in
+    let is = measure_told c.args.self.now.catalog.tables c.args.q.now c.in_ok-held.held.items
+    c.args.self.now.catalog.weights held in
     let there : measure_over c.args.q.now (rows_in (contents_of c.as_slice.result.now)) (masks_in c.as_slice.result.now)
-    c.self.inside.weights ≡ measure_of c.args.self.now.tables c.args.self.now.weights c.args.q.now =
+    c.self.inside.weights ≡ measure_of c.args.self.now.catalog.tables c.args.self.now.catalog.weights c.args.q.now =
     ap₂ (λ (hs : List HeldTable) (w : Weights). measure_over c.args.q.now (rows_in (contents_of hs)) (masks_in hs) w)
-    c.as_slice.ensures.value (ap (λ (k : Catalog). k.weights) c.self.view_is) ∙ is in
+    c.as_slice.ensures.value (ap (λ (k : StoreState). k.catalog.weights) c.self.view_is) ∙ is in
     subst (λ (m : Measure). IfOk c.measure_held.result (λ measure. measure ≡ m)) there c.measure_held.ensures

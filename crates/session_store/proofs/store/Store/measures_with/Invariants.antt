@@ -7,4 +7,5 @@ use Rattle.session_store.proofs.store.Store.measures_with.Given as goal
 abbrev pub invariant-loop-statement : goal.invariant-loop-statement
 invariant-loop-statement l =
     l.measures.items
-    ≡ measures_of (put_held l.self.tables l.name l.new) l.self.weights (take l.statement l.self.statements)
+    ≡ measures_of (put_held l.self.catalog.tables l.name l.new) l.self.catalog.weights
+    (take l.statement l.self.catalog.statements)
