@@ -91,3 +91,11 @@ loaded held catalog name bytes version sound h =
     let k = ok_spelled held catalog name (length bytes) (table_of bytes) version (spelled_table bytes)
     (ok_long (nat_lt 67108864 (length bytes)) _ version _ h) in
     kept held catalog name version sound k.number k.table k.columns k.limits
+
+-- a version that is loaded has the next number
+pub load_number : (held : List Version) (catalog : Catalog) (name bytes : List ℕ) (version : Version)
+    → loading_of held catalog name bytes ≡ Ok version → version.number ≡ catalog.versions
+unfolding loading_of
+load_number held catalog name bytes version h =
+    (ok_spelled held catalog name (length bytes) (table_of bytes) version (spelled_table bytes)
+    (ok_long (nat_lt 67108864 (length bytes)) _ version _ h)).number

@@ -1,4 +1,5 @@
 pub mod Chains
+pub mod Holds
 pub mod Progress
 pub mod Sessions
 pub mod WholeFiles

@@ -1,10 +1,10 @@
 -- Each line has a step: to add a command, add its case to `command_goes_on`.
-use Rattle.std.proofs.Common.{ℕ, suc, ◌≡◌, ◌∙◌, ◌+◌, List, [], ◌∷◌, ◌++◌, length, map, set, Bool, true, false, cond, Option, Some, None}
+use Rattle.std.proofs.Common.{ℕ, suc, ◌≡◌, ◌∙◌, ◌+◌, List, [], ◌∷◌, ◌++◌, drop, length, map, set, take, Bool, true, false, cond, Option, Some, None}
 use Rattle.std.proofs.Common.{Result, Ok, Err, MatchOption, MatchResult, ap, refl, subst, sym}
 use Rattle.std.specs.Option.{option_map}
 use Rattle.std.specs.Str.{bytes_eq}
 use Rattle.row_values.specs.Names.{canonical_name}
-use Rattle.row_values.specs.Refusals.{missing_file, not_built, syntax, unknown_plan, unknown_statement}
+use Rattle.row_values.specs.Refusals.{missing_file, syntax, unknown_cursor, unknown_plan, unknown_statement}
 use Rattle.row_values.specs.Statements.{IsSoundQuery, Statement, kinds_of}
 use Rattle.row_values.specs.declared.refusals.Refusal.{Refusal}
 use Rattle.row_values.specs.declared.values.Value.{Value}
@@ -36,6 +36,7 @@ use Rattle.script_report.specs.declared.replies.Reply.{Reply}
 use Rattle.script_report.specs.declared.replies.Reply.TheVariants as reply
 use Rattle.catalog_model.specs.Catalogs.{StatementState, Version, find_statement, number_of, stats_now, with_version}
 use Rattle.catalog_model.specs.Catalogs.{with_index, with_statement}
+use Rattle.catalog_model.specs.Held.{holding_refusal, versions_of}
 use Rattle.catalog_model.specs.Indexing.{indexing_of}
 use Rattle.catalog_model.specs.Instances.{Instance, instance_of}
 use Rattle.catalog_model.specs.Loading.{loading_of}
@@ -46,8 +47,10 @@ use Rattle.session_model.specs.Executions.{IsChosen, IsExecution, Optimises, Reu
 use Rattle.session_model.specs.Executions.{eviction_shown, note_shown, optimum_of, rows_refusal}
 use Rattle.session_model.specs.Run.{is_silent}
 use Rattle.session_model.specs.Session.{IsCacheOf, IsSession}
-use Rattle.session_model.specs.State.{State, cache_at, cleared_for, held_versions}
+use Rattle.session_model.specs.State.{CursorState, State, cache_at, cleared_for, closed_from, cursor_named, fetched_from}
+use Rattle.session_model.specs.State.{held_versions, holds_of}
 use Rattle.session_model.specs.Step.{Step, CanStep, CommandStep, LoadStep, IndexStep, PrepareStep, RunStep, InstanceStep}
+use Rattle.session_model.specs.Step.{CloseStep, Closes, CursorStep, FetchStep, Fetches, OpenInstanceStep, OpenStep, Opens}
 use Rattle.session_model.specs.Step.{EvictFrom, EvictStep, Evicts, ExecutionStep, ShowStep, Shows, anchor_shown, plan_shown}
 use Rattle.session_model.specs.Step.{Refuses, Loads, Indexes, Prepares, Executes, present_stats, present_tables}
 use Rattle.session_model.specs.Step.{present_vector}
@@ -349,15 +352,66 @@ show_goes_on old name =
     (λ number is. let one = numbered old.catalog.statements name number is in
     shows old name number one.prepared.statement one.found)
 
+-- Cursors.
+
+opens : (old : State) (cursor name : List ℕ) (q : Statement) (args : List Value)
+    → Can (λ answer new. (e : ExecutionStep old name q args new) ×
+    (answer ≡ reply.Ran e.execution (map row_line (meaning_of q (present_tables old q) args))))
+    → Can (Opens old cursor name q args)
+opens old cursor name q args can = (
+  reply.Opened cursor can.2.0.execution,
+  record can.1 { cursors = old.cursors ++ record {
+    name = cursor;
+    held = versions_of old.catalog.tables q;
+    lines = map row_line (meaning_of q (present_tables old q) args);
+  } ∷ [] },
+  record { middle = can.1; step = can.2.0; says = refl; keeps = refl },
+)
+
+cursor_goes_on : (old : State) (cursor name : List ℕ) (args : List Value) → IsSession old
+    → Can (CursorStep old cursor name args)
+cursor_goes_on old cursor name args session =
+    by_option (holding_refusal (holds_of old.cursors) cursor) old (OpenStep old cursor name args)
+    (by_result (instance_of old.catalog name args) old
+    (λ instance. OpenInstanceStep old cursor name instance.statement instance.args)
+    (λ instance i.
+    by_option (rows_refusal (length (meaning_of instance.statement (present_tables old instance.statement) instance.args)))
+    old (Opens old cursor name instance.statement instance.args)
+    (opens old cursor name instance.statement instance.args (executes old name instance args session i))))
+
+fetches : (old : State) (cursor : List ℕ) (count : ℕ) (waiting : CursorState) → Can (Fetches old cursor waiting count)
+fetches old cursor count waiting = (
+  reply.Fetched cursor (take count waiting.lines) (length (drop count waiting.lines)),
+  record old { cursors = fetched_from old.cursors cursor count },
+  record { says = refl; keeps = refl },
+)
+
+fetch_goes_on : (old : State) (cursor : List ℕ) (count : ℕ) → Can (FetchStep old cursor count)
+fetch_goes_on old cursor count =
+    by_none (cursor_named old.cursors cursor) old (unknown_cursor (canonical_name cursor))
+    (λ waiting. Fetches old cursor waiting count) (λ waiting is. fetches old cursor count waiting)
+
+closes : (old : State) (cursor : List ℕ) → Can (Closes old cursor)
+closes old cursor = (
+  reply.Closed cursor,
+  record old { cursors = closed_from old.cursors cursor },
+  record { says = refl; drops = refl },
+)
+
+close_goes_on : (old : State) (cursor : List ℕ) → Can (CloseStep old cursor)
+close_goes_on old cursor =
+    by_none (cursor_named old.cursors cursor) old (unknown_cursor (canonical_name cursor))
+    (λ waiting. Closes old cursor) (λ waiting is. closes old cursor)
+
 command_goes_on : (old : State) (command : Command) (file : Option (List ℕ)) → IsSession old
     → Can (CommandStep old command file)
 command_goes_on old (Load table name) file session = load_goes_on old table file
 command_goes_on old (Index table column) file session = index_goes_on old table column
 command_goes_on old (Prepare name select) file session = prepare_goes_on old name select
 command_goes_on old (Run name args) file session = run_goes_on old name args session
-command_goes_on old (Cursor cursor name args) file session = refuses not_built old
-command_goes_on old (Fetch cursor rows) file session = refuses not_built old
-command_goes_on old (Close cursor) file session = refuses not_built old
+command_goes_on old (Cursor cursor name args) file session = cursor_goes_on old cursor name args session
+command_goes_on old (Fetch cursor rows) file session = fetch_goes_on old cursor rows
+command_goes_on old (Close cursor) file session = close_goes_on old cursor
 command_goes_on old (Evict name plan) file session = evict_goes_on old name plan
 command_goes_on old (Show name) file session = show_goes_on old name
 

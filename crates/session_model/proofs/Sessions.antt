@@ -1,6 +1,7 @@
 -- What every session has: the first state has it, and each step keeps it.
 use Rattle.std.proofs.Common.{ℕ, ◌≡◌, ◌≢◌, ◌<◌, ◌≤◌, ◌+◌, List, [], ◌∷◌, ◌++◌, length, set, Option, Some, None, Result, Ok, Err}
-use Rattle.std.proofs.Common.{MatchOption, MatchResult, All, AllPairs, refl, sym, subst, arith, false}
+use Rattle.std.proofs.Common.{MatchOption, MatchResult, All, AllPairs, refl, sym, subst, arith, false, true, Bool, cond, IsTrue, length-append, map, nat_lt}
+use Rattle.std.proofs.lemmas.Bool.Decides.{nat_tests}
 use Rattle.std.proofs.lemmas.List.Elements.{All-nil}
 use Rattle.outside_model.specs.Files.{Files}
 use Rattle.row_values.specs.Statements.{IsSoundQuery, Statement}
@@ -9,6 +10,7 @@ use Rattle.row_values.specs.declared.values.Value.{Value}
 use Rattle.csv_tables.specs.Tables.{IsTable}
 use Rattle.sql_parser.specs.Statement.{IsSound, Parts}
 use Rattle.statement_meaning.specs.Meaning.{meaning_of}
+use Rattle.statement_meaning.specs.Spelling.{row_line}
 use Rattle.plan_trees.specs.Statistics.{AreWeights, IsSoundStats, IsSoundVector, Statistics}
 use Rattle.plan_trees.specs.Trees.{TopTree}
 use Rattle.plan_trees.specs.declared.statistics.Weights.{Weights}
@@ -26,28 +28,35 @@ use Rattle.script_report.specs.declared.commands.Command.{Command}
 use Rattle.script_report.specs.declared.commands.Command.TheVariants.{Load, Index, Prepare, Run, Cursor, Fetch, Close, Evict, Show}
 use Rattle.script_report.specs.declared.replies.Execution.{Execution}
 use Rattle.script_report.specs.declared.replies.Reply.{Reply}
-use Rattle.catalog_model.specs.Catalogs.{Catalog, TableState, StatementState, empty_catalog, find_statement, number_of}
-use Rattle.catalog_model.specs.Catalogs.{reads_table, stats_now, with_index, with_statement, with_version}
+use Rattle.catalog_model.specs.Catalogs.{Catalog, TableState, StatementState, Version, empty_catalog, find_statement, number_of}
+use Rattle.catalog_model.specs.Catalogs.{put_version, reads_table, stats_now, with_index, with_statement, with_version}
 use Rattle.catalog_model.specs.Indexing.{indexing_of}
 use Rattle.catalog_model.specs.Instances.{Instance, instance_of}
 use Rattle.catalog_model.specs.Loading.{loading_of}
 use Rattle.catalog_model.specs.Preparing.{preparing_of}
-use Rattle.catalog_model.specs.Sound.{IsCatalog, IsLoaded}
-use Rattle.catalog_model.proofs.Indexings.{indexed}
-use Rattle.catalog_model.proofs.Loads.{loaded}
+use Rattle.catalog_model.specs.Held.{HeldCursor, cursors_differ, held_by, holding_refusal, is_open, present_versions}
+use Rattle.catalog_model.specs.Held.{versions_of, without_cursor}
+use Rattle.catalog_model.specs.Sound.{AreNumbered, IsCatalog, IsLoaded}
+use Rattle.catalog_model.proofs.Indexings.{indexed, same_versions}
+use Rattle.catalog_model.proofs.Cursors.{closed, differ_closed, differ_opened, few_left, numbered_closed, numbered_opened}
+use Rattle.catalog_model.proofs.Cursors.{numbered_put, opened}
+use Rattle.catalog_model.proofs.Loads.{load_number, loaded}
 use Rattle.catalog_model.proofs.Measures.{measured, statement_found}
 use Rattle.catalog_model.proofs.Preparations.{prepared}
 use Rattle.catalog_model.proofs.Unread.{indexed_unread, loaded_unread}
 use Rattle.session_model.specs.Executions.{IsChosen, optimum_of, rows_refusal}
 use Rattle.session_model.specs.Run.{Line, IsChain, StepOver}
 use Rattle.session_model.specs.Session.{AreSettings, EachWithCache, IsCacheOf, IsSession}
-use Rattle.session_model.specs.State.{State, cache_at, cleared_for, initial_state, held_versions}
+use Rattle.session_model.specs.State.{CursorState, State, cache_at, cleared_for, closed_from, cursor_named, fetched_from}
+use Rattle.session_model.specs.State.{held_versions, hold_of, holds_of, initial_state}
 use Rattle.session_model.specs.Step.{Step, CommandStep, LoadStep, PrepareStep, RunStep, InstanceStep, Refuses}
-use Rattle.session_model.specs.Step.{EvictFrom, EvictStep, Evicts, ExecutionStep, ShowStep, Shows}
+use Rattle.session_model.specs.Step.{CloseStep, Closes, CursorStep, EvictFrom, EvictStep, Evicts, ExecutionStep, FetchStep, Fetches}
+use Rattle.session_model.specs.Step.{OpenInstanceStep, OpenStep, Opens, ShowStep, Shows}
 use Rattle.session_model.specs.Step.{Loads, Prepares, Executes, file_of, present_stats, present_tables, present_vector}
 use Rattle.session_model.specs.Step.{IndexStep, Indexes}
 use Rattle.session_model.specs.declared.settings.Settings.{Settings}
 use Rattle.session_model.proofs.Chains.{keeps}
+use Rattle.session_model.proofs.Holds.{holds_behind, holds_closed, holds_fetched, holds_long}
 use Rattle.session_model.proofs.EachCache.{each_behind, each_cleared, each_set, each_weaker}
 
 empty : (weights : Weights) → AreWeights weights → IsCatalog [] (empty_catalog weights)
@@ -66,10 +75,18 @@ empty weights are = record {
   few_bytes = omega arith;
 }
 
+no_version : Version
+no_version = record { content = record { schema = []; rows = [] }; bytes = 0; number = 0 }
+
 pub first : (settings : Settings) → AreSettings settings → IsSession (initial_state settings)
 first settings are = record {
   settings = are;
   catalog = empty settings.weights are.weights;
+  numbered = record {
+    version_of = λ n. no_version;
+    one_each = All-nil (λ (v : Version). no_version ≡ v);
+    before = All-nil (λ (v : Version). v.number < 0);
+  };
   cursor_names = refl;
   few_cursors = omega arith;
   caches = tt;
@@ -81,13 +98,15 @@ with_both old catalog caches = record old { catalog = catalog; caches = caches }
 
 changed : (old new : State) (catalog : Catalog) (caches : List CacheState) → IsSession old
     → IsCatalog (held_versions old.cursors) catalog
+    → AreNumbered catalog.versions (held_versions old.cursors ++ present_versions catalog.tables)
     → EachWithCache (IsCacheOf (with_both old catalog caches)) catalog.statements caches
     → new ≡ with_both old catalog caches → IsSession new
-changed old new catalog caches session sound each e =
+changed old new catalog caches session sound numbered each e =
     subst IsSession (sym e)
     (record {
       settings = session.settings;
       catalog = sound;
+      numbered = numbered;
       cursor_names = session.cursor_names;
       few_cursors = session.few_cursors;
       caches = each;
@@ -106,6 +125,11 @@ by_option : (R : Type 0) (o : Option Refusal) (P : Type 0) (Q : Refusal → Type
     → ((why : Refusal) → Q why → R) → R
 by_option R None P Q m none some = none m
 by_option R (Some why) P Q m none some = some why m
+
+by_free : (R : Type 0) (o : Option Refusal) (P : Type 0) (Q : Refusal → Type 0) → MatchOption o P Q
+    → (o ≡ None → P → R) → ((why : Refusal) → Q why → R) → R
+by_free R None P Q m none some = none refl m
+by_free R (Some why) P Q m none some = some why m
 
 by_none : {A : Type 0} (R : Type 0) (o : Option A) (P : Type 0) (Q : A → Type 0) → MatchOption o P Q → (P → R)
     → ((a : A) → o ≡ Some a → Q a → R) → R
@@ -185,6 +209,19 @@ reused_true q s executions budget before after position e h few =
       subst (λ (c : CacheState). c.next_plan ≤ executions + 1 + 1) (sym e) count,
     )
 
+-- the next version has a number of its own
+loaded_numbers : (old : State) (name bytes : List ℕ) (version : Version) → IsSession old
+    → loading_of (held_versions old.cursors) old.catalog name bytes ≡ Ok version
+    → AreNumbered (with_version old.catalog name version).versions
+    (held_versions old.cursors ++ present_versions (with_version old.catalog name version).tables)
+loaded_numbers old name bytes version session e =
+    let number = load_number (held_versions old.cursors) old.catalog name bytes version e in
+    subst (λ n. AreNumbered (n + 1)
+    (held_versions old.cursors ++ present_versions (put_version old.catalog.tables name version))) number
+    (numbered_put (held_versions old.cursors) old.catalog.tables name version
+    (subst (λ n. AreNumbered n (held_versions old.cursors ++ present_versions old.catalog.tables)) (sym number)
+    session.numbered))
+
 pub load_keeps : (old new : State) (name : List ℕ) (file : Option (List ℕ)) (reply : Reply) → IsSession old
     → LoadStep old name file reply new → IsSession new
 load_keeps old new name None reply session step = refused _ old new reply session step
@@ -194,6 +231,7 @@ load_keeps old new name (Some bytes) reply session step =
     (λ version e l. changed old new (with_version old.catalog name version)
     (cleared_for name old.catalog.statements old.caches) session
     (loaded (held_versions old.cursors) old.catalog name bytes version session.catalog e)
+    (loaded_numbers old name bytes version session e)
     (cleared_true old (with_version old.catalog name version) name session (loaded_unread old.catalog.tables name version
     old.catalog.weights)) l.keeps)
     (λ why r. refused why old new reply session r)
@@ -206,6 +244,8 @@ index_keeps old new table column reply session step =
     (λ number e i. changed old new (with_index old.catalog table number)
     (cleared_for table old.catalog.statements old.caches) session
     (indexed (held_versions old.cursors) old.catalog table number session.catalog)
+    (subst (λ (vs : List Version). AreNumbered old.catalog.versions (held_versions old.cursors ++ vs))
+    (sym (same_versions old.catalog.tables table number)) session.numbered)
     (cleared_true old (with_index old.catalog table number) table session
     (indexed_unread old.catalog.tables table number old.catalog.weights)) i.keeps)
     (λ why r. refused why old new reply session r)
@@ -216,7 +256,7 @@ prepare_keeps old new name select reply parts session step =
     by_result (IsSession new) (preparing_of old.catalog name select) (λ q. Prepares old name q reply new)
     (λ why. Refuses why old reply new) step
     (λ q e p. changed old new (with_statement old.catalog name q) (old.caches ++ empty_cache ∷ []) session
-    (prepared (held_versions old.cursors) old.catalog name select q parts session.catalog e)
+    (prepared (held_versions old.cursors) old.catalog name select q parts session.catalog e) session.numbered
     (each_behind (IsCacheOf (with_both old (with_statement old.catalog name q) (old.caches ++ empty_cache ∷ []))) _
     empty_cache
     (record { faithful = none_faithful empty_cache q _ old.executions old.settings.budget refl refl; numbers = omega arith })
@@ -235,6 +275,7 @@ recached old new name number cache executions session is later change e =
     (record {
       settings = session.settings;
       catalog = session.catalog;
+      numbered = session.numbered;
       cursor_names = session.cursor_names;
       few_cursors = session.few_cursors;
       caches = each_set (IsCacheOf old) (IsCacheOf (with_cache old number cache executions)) name cache
@@ -338,6 +379,130 @@ run_keeps old new name args reply session step =
     (λ why r. refused why old new reply session r))
     (λ why r. refused why old new reply session r)
 
+-- Cursors.
+
+-- a session with other cursors
+abbrev with_cursors : State → List CursorState → State
+with_cursors old cursors = record old { cursors = cursors }
+
+-- what a session needs of its cursors
+record AreSoundCursors (old : State) (holds : List HeldCursor) : Type 0 where
+  pub catalog : IsCatalog (held_by holds) old.catalog
+  pub numbered : AreNumbered old.catalog.versions (held_by holds ++ present_versions old.catalog.tables)
+  pub names : IsTrue (cursors_differ holds)
+  pub few : length holds ≤ 16
+
+recursored : (old new : State) (cursors : List CursorState) (holds : List HeldCursor) → IsSession old
+    → holds_of cursors ≡ holds → AreSoundCursors old holds → new ≡ with_cursors old cursors → IsSession new
+recursored old new cursors holds session same sound e =
+    let s = subst (AreSoundCursors old) (sym same) sound in
+    let few = s.few in
+    let long = holds_long cursors in
+    subst IsSession (sym e)
+    (record {
+      settings = session.settings;
+      catalog = s.catalog;
+      numbered = s.numbered;
+      cursor_names = s.names;
+      few_cursors = omega (arith, few, long);
+      caches = each_weaker (IsCacheOf old) (IsCacheOf (with_cursors old cursors))
+          (λ p c h. record { faithful = h.faithful; numbers = h.numbers }) old.catalog.statements old.caches
+          session.caches;
+    })
+
+sound_cursors : (old : State) → IsSession old → AreSoundCursors old (holds_of old.cursors)
+sound_cursors old session =
+    let few = session.few_cursors in
+    let long = holds_long old.cursors in
+    record {
+      catalog = session.catalog;
+      numbered = session.numbered;
+      names = session.cursor_names;
+      few = omega (arith, few, long);
+    }
+
+-- what a cursor that may be opened finds
+allowed : (cursors : List HeldCursor) (name : List ℕ) → holding_refusal cursors name ≡ None
+    → (is_open name cursors ≡ false) × (length cursors < 16)
+allowed cursors name e = by_test (is_open name cursors) (nat_lt (length cursors) 16) _ _ refl refl e
+  where
+    by_test : (there few : Bool) (taken many : Refusal) → is_open name cursors ≡ there
+        → nat_lt (length cursors) 16 ≡ few → cond there (Some taken) (cond few None (Some many)) ≡ None
+        → (is_open name cursors ≡ false) × (length cursors < 16)
+    by_test true few taken many o f e = absurd cc
+    by_test false false taken many o f e = absurd cc
+    by_test false true taken many o f e = (o, grind (arith, nat_tests))
+
+opened_keeps : (old new : State) (cursor name : List ℕ) (instance : Instance) (args : List Value) (reply : Reply)
+    → IsSession old → holding_refusal (holds_of old.cursors) cursor ≡ None
+    → instance_of old.catalog name args ≡ Ok instance
+    → Opens old cursor name instance.statement instance.args reply new → IsSession new
+opened_keeps old new cursor name instance args reply session free i o =
+    let q : Statement = instance.statement in
+    let middle = execution_keeps old o.middle name instance args session i o.step in
+    let may = allowed (holds_of old.cursors) cursor free in
+    let room = may.1 in
+    let new_cursor : CursorState = record {
+      name = cursor;
+      held = versions_of old.catalog.tables q;
+      lines = map row_line (meaning_of q (present_tables old q) instance.args);
+    } in
+    let holds : List HeldCursor = holds_of old.cursors ++ hold_of new_cursor ∷ [] in
+    let sound : AreSoundCursors old holds = record {
+      catalog = opened (holds_of old.cursors) cursor old.catalog q session.catalog;
+      numbered = numbered_opened (holds_of old.cursors) cursor old.catalog q session.numbered;
+      names = differ_opened (holds_of old.cursors) (hold_of new_cursor) may.0 session.cursor_names;
+      few = subst (λ n. n ≤ 16) (sym (length-append (holds_of old.cursors) (hold_of new_cursor ∷ []))) (omega (arith,
+          room));
+    } in
+    let there : AreSoundCursors o.middle holds = subst (λ (s : State). AreSoundCursors s holds) (sym o.step.keeps)
+    (record { catalog = sound.catalog; numbered = sound.numbered; names = sound.names; few = sound.few }) in
+    recursored o.middle new (old.cursors ++ new_cursor ∷ []) holds middle (holds_behind old.cursors new_cursor) there
+    o.keeps
+
+cursor_keeps : (old new : State) (cursor name : List ℕ) (args : List Value) (reply : Reply) → IsSession old
+    → CursorStep old cursor name args reply new → IsSession new
+cursor_keeps old new cursor name args reply session step =
+    by_free (IsSession new) (holding_refusal (holds_of old.cursors) cursor)
+    (OpenStep old cursor name args reply new) (λ why. Refuses why old reply new) step
+    (λ free from. by_result (IsSession new) (instance_of old.catalog name args)
+    (λ instance. OpenInstanceStep old cursor name instance.statement instance.args reply new)
+    (λ why. Refuses why old reply new) from
+    (λ instance e s. by_option (IsSession new)
+    (rows_refusal (length (meaning_of instance.statement (present_tables old instance.statement) instance.args)))
+    (Opens old cursor name instance.statement instance.args reply new)
+    (λ why. Refuses why old reply new) s (opened_keeps old new cursor name instance args reply session free e)
+    (λ why r. refused why old new reply session r))
+    (λ why r. refused why old new reply session r))
+    (λ why r. refused why old new reply session r)
+
+fetch_keeps : (old new : State) (cursor : List ℕ) (count : ℕ) (reply : Reply) → IsSession old
+    → FetchStep old cursor count reply new → IsSession new
+fetch_keeps old new cursor count reply session step =
+    by_none (IsSession new) (cursor_named old.cursors cursor) (Refuses _ old reply new)
+    (λ waiting. Fetches old cursor waiting count reply new) step (λ r. refused _ old new reply session r)
+    (λ waiting is f. recursored old new (fetched_from old.cursors cursor count) (holds_of old.cursors) session
+    (holds_fetched old.cursors cursor count) (sound_cursors old session) f.keeps)
+
+close_keeps : (old new : State) (cursor : List ℕ) (reply : Reply) → IsSession old
+    → CloseStep old cursor reply new → IsSession new
+close_keeps old new cursor reply session step =
+    by_none (IsSession new) (cursor_named old.cursors cursor) (Refuses _ old reply new)
+    (λ waiting. Closes old cursor reply new) step (λ r. refused _ old new reply session r)
+    (λ waiting is c.
+    let before = sound_cursors old session in
+    let most = before.few in
+    let fewer = few_left (holds_of old.cursors) cursor in
+    recursored old new (closed_from old.cursors cursor) (without_cursor cursor (holds_of old.cursors)) session
+    (holds_closed old.cursors cursor)
+    (record {
+      catalog = closed (holds_of old.cursors) cursor old.catalog before.catalog before.numbered;
+      numbered = numbered_closed (holds_of old.cursors) cursor old.catalog before.numbered;
+      names = differ_closed (holds_of old.cursors) cursor before.names;
+      few = omega (arith, most, fewer);
+    })
+    c.drops)
+
 -- where this is said, a statement that is prepared is sound
 abbrev PreparesSound : Reading → Type 0
 PreparesSound reading = (name : List ℕ) (select : Parts) → reading ≡ Says (Prepare name select) → IsSound select
@@ -350,9 +515,11 @@ command_keeps old new (Index table column) file reply sound session step =
 command_keeps old new (Prepare name select) file reply sound session step =
     prepare_keeps old new name select reply (sound name select refl) session step
 command_keeps old new (Run name args) file reply sound session step = run_keeps old new name args reply session step
-command_keeps old new (Cursor cursor name args) file reply sound session step = refused _ old new reply session step
-command_keeps old new (Fetch cursor rows) file reply sound session step = refused _ old new reply session step
-command_keeps old new (Close cursor) file reply sound session step = refused _ old new reply session step
+command_keeps old new (Cursor cursor name args) file reply sound session step =
+    cursor_keeps old new cursor name args reply session step
+command_keeps old new (Fetch cursor rows) file reply sound session step =
+    fetch_keeps old new cursor rows reply session step
+command_keeps old new (Close cursor) file reply sound session step = close_keeps old new cursor reply session step
 command_keeps old new (Evict name plan) file reply sound session step =
     evict_keeps old new name plan reply session step
 command_keeps old new (Show name) file reply sound session step = show_keeps old new name reply session step

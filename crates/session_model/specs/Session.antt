@@ -1,24 +1,15 @@
 -- What every state has that a session reaches.
-use Rattle.std.specs.Prelude.{ℕ, ◌≤◌, ◌+◌, ◌*◌, List, [], ◌∷◌, length, Bool, true, false, not, ◌&&◌, ◌||◌, IsTrue}
-use Rattle.std.specs.Str.{bytes_eq}
+use Rattle.std.specs.Prelude.{◌≤◌, ◌+◌, ◌*◌, List, [], ◌∷◌, ◌++◌, length, IsTrue}
 use Rattle.plan_trees.specs.Statistics.{AreWeights}
 use Rattle.cache_model.specs.Caches.{CacheState}
 use Rattle.cache_model.specs.Faithful.{IsFaithfulCache}
 use Rattle.catalog_model.specs.Catalogs.{StatementState, stats_now}
-use Rattle.catalog_model.specs.Sound.{IsCatalog}
-use Rattle.session_model.specs.declared.TheConstants.{BUDGET_LIMIT, CURSOR_LIMIT, RECOST_LIMIT}
+use Rattle.catalog_model.specs.Held.{cursors_differ, present_versions}
+use Rattle.catalog_model.specs.Sound.{AreNumbered, IsCatalog}
+use Rattle.catalog_model.specs.declared.TheConstants.{CURSOR_LIMIT}
+use Rattle.session_model.specs.declared.TheConstants.{BUDGET_LIMIT, RECOST_LIMIT}
 use Rattle.session_model.specs.declared.settings.Settings.{Settings}
-use Rattle.session_model.specs.State.{State, CursorState, held_versions}
-
--- whether a cursor of this name is open
-abbrev pub is_open : List ℕ → List CursorState → Bool
-is_open name [] = false
-is_open name (cursor ∷ cursors) = bytes_eq cursor.name name || is_open name cursors
-
--- whether no name stands twice
-abbrev pub cursors_differ : List CursorState → Bool
-cursors_differ [] = true
-cursors_differ (cursor ∷ cursors) = not (is_open cursor.name cursors) && cursors_differ cursors
+use Rattle.session_model.specs.State.{State, held_versions, holds_of}
 
 -- the settings of a run: lambda is at least 1, keep lies between 1 and lambda, and the numbers are within their limits
 pub record AreSettings (settings : Settings) : Type 0 where
@@ -48,8 +39,11 @@ pub record IsSession (state : State) : Type 0 where
   pub settings : AreSettings state.settings
   -- names differ, each statement's tables are loaded with the columns that it knows, and all is within its limits
   pub catalog : IsCatalog (held_versions state.cursors) state.catalog
+  -- each number stands for one version, whether it is present or held
+  pub numbered : AreNumbered state.catalog.versions
+      (held_versions state.cursors ++ present_versions state.catalog.tables)
   -- the open cursors differ, and are few
-  pub cursor_names : IsTrue (cursors_differ state.cursors)
+  pub cursor_names : IsTrue (cursors_differ (holds_of state.cursors))
   pub few_cursors : length state.cursors ≤ CURSOR_LIMIT
   -- each statement has a cache, which is true of it
   pub caches : EachWithCache (IsCacheOf state) state.catalog.statements state.caches

@@ -1,7 +1,9 @@
 -- What a session keeps between its lines.
-use Rattle.std.specs.Prelude.{ℕ, List, [], ◌∷◌, ◌++◌, slice_index_or, if◌then◌else◌}
+use Rattle.std.specs.Prelude.{ℕ, List, [], ◌∷◌, drop, map, slice_index_or, if◌then◌else◌, Option, Some, None}
+use Rattle.std.specs.Str.{bytes_eq}
 use Rattle.cache_model.specs.Caches.{CacheState, cleared, empty_cache}
 use Rattle.catalog_model.specs.Catalogs.{Catalog, StatementState, Version, empty_catalog, reads_table}
+use Rattle.catalog_model.specs.Held.{HeldCursor, held_by}
 use Rattle.session_model.specs.declared.settings.Settings.{Settings}
 
 -- an open cursor: its name, the versions of tables that it holds, and its row lines that aren't fetched yet
@@ -29,10 +31,36 @@ initial_state settings =
       settings = settings;
     }
 
+-- Cursors.
+
+-- what an open cursor holds against the limits, without its row lines
+abbrev pub hold_of : CursorState → HeldCursor
+hold_of cursor = record { name = cursor.name; held = cursor.held }
+
+abbrev pub holds_of : List CursorState → List HeldCursor
+holds_of cursors = map hold_of cursors
+
 -- the versions that cursors hold
 abbrev pub held_versions : List CursorState → List Version
-held_versions [] = []
-held_versions (cursor ∷ cursors) = cursor.held ++ held_versions cursors
+held_versions cursors = held_by (holds_of cursors)
+
+-- the cursor of this name
+abbrev pub cursor_named : List CursorState → List ℕ → Option CursorState
+cursor_named [] name = None
+cursor_named (cursor ∷ cursors) name = if bytes_eq cursor.name name then Some cursor else cursor_named cursors name
+
+-- the cursors once so many row lines of the one of this name were fetched
+abbrev pub fetched_from : List CursorState → List ℕ → ℕ → List CursorState
+fetched_from [] name count = []
+fetched_from (cursor ∷ cursors) name count =
+    if bytes_eq cursor.name name then record cursor { lines = drop count cursor.lines } ∷ cursors else
+    cursor ∷ fetched_from cursors name count
+
+-- the cursors without the one of this name
+abbrev pub closed_from : List CursorState → List ℕ → List CursorState
+closed_from [] name = []
+closed_from (cursor ∷ cursors) name =
+    if bytes_eq cursor.name name then cursors else cursor ∷ closed_from cursors name
 
 -- Caches.
 

@@ -1,5 +1,5 @@
 -- What one line may answer, and what it leaves.
-use Rattle.std.specs.Prelude.{ℕ, ◌≡◌, ◌+◌, List, [], ◌∷◌, ◌++◌, length, map, set, option_and_then, Option, Some, None}
+use Rattle.std.specs.Prelude.{ℕ, ◌≡◌, ◌+◌, List, [], ◌∷◌, ◌++◌, drop, length, map, set, take, option_and_then, Option, Some, None}
 use Rattle.std.specs.Prelude.{MatchOption, MatchResult}
 use Rattle.outside_model.specs.Files.{Files}
 use Rattle.row_values.specs.Names.{canonical_name}
@@ -24,12 +24,14 @@ use Rattle.plan_trees.specs.Statistics.{Statistics}
 use Rattle.statement_meaning.specs.Vectors.{vector_of}
 use Rattle.catalog_model.specs.Catalogs.{Version, find_statement, number_of, with_version, with_index, with_statement}
 use Rattle.catalog_model.specs.Catalogs.{stats_now, tables_of}
+use Rattle.catalog_model.specs.Held.{holding_refusal, versions_of}
 use Rattle.catalog_model.specs.Indexing.{indexing_of}
 use Rattle.catalog_model.specs.Instances.{instance_of}
 use Rattle.catalog_model.specs.Loading.{loading_of}
 use Rattle.catalog_model.specs.Preparing.{preparing_of}
 use Rattle.session_model.specs.Executions.{IsExecution, rows_refusal}
-use Rattle.session_model.specs.State.{State, cache_at, cleared_for, held_versions}
+use Rattle.session_model.specs.State.{CursorState, State, cache_at, cleared_for, closed_from, cursor_named, fetched_from}
+use Rattle.session_model.specs.State.{held_versions, holds_of}
 
 -- the line is turned down: the reply says why, and nothing changes
 pub record Refuses (why : Refusal) (old : State) (answer : Reply) (new : State) : Type 0 where
@@ -170,9 +172,59 @@ ShowStep old name answer new = MatchOption (number_of old.catalog.statements nam
     (Refuses (refused.unknown_statement (canonical_name name)) old answer new)
     (λ number. Shows old name number answer new)
 
--- a command that isn't built yet
-abbrev pub NotBuiltStep : State → Reply → State → Type 0
-NotBuiltStep old answer new = Refuses refused.not_built old answer new
+-- Cursors.
+
+-- the statement is executed, and its row lines wait in a new cursor, which holds the versions of its tables
+pub record Opens (old : State) (cursor name : List ℕ) (q : Statement) (args : List Value) (answer : Reply)
+    (new : State) : Type 0 where
+  pub middle : State
+  pub step : ExecutionStep old name q args middle
+  pub says : answer ≡ reply.Opened cursor step.execution
+  pub keeps : new ≡ record middle { cursors = old.cursors ++ record {
+    name = cursor;
+    held = versions_of old.catalog.tables q;
+    lines = map row_line (meaning_of q (present_tables old q) args);
+  } ∷ [] }
+
+abbrev pub OpenInstanceStep : State → List ℕ → List ℕ → Statement → List Value → Reply → State → Type 0
+OpenInstanceStep old cursor name q args answer new =
+    MatchOption (rows_refusal (length (meaning_of q (present_tables old q) args)))
+    (Opens old cursor name q args answer new)
+    (λ why. Refuses why old answer new)
+
+abbrev pub OpenStep : State → List ℕ → List ℕ → List Value → Reply → State → Type 0
+OpenStep old cursor name args answer new = MatchResult (instance_of old.catalog name args)
+    (λ instance. OpenInstanceStep old cursor name instance.statement instance.args answer new)
+    (λ why. Refuses why old answer new)
+
+-- `cursor CUR NAME ARG*`
+abbrev pub CursorStep : State → List ℕ → List ℕ → List Value → Reply → State → Type 0
+CursorStep old cursor name args answer new = MatchOption (holding_refusal (holds_of old.cursors) cursor)
+    (OpenStep old cursor name args answer new)
+    (λ why. Refuses why old answer new)
+
+-- the first so many of the row lines that wait, or all of them; they leave the cursor
+pub record Fetches (old : State) (cursor : List ℕ) (waiting : CursorState) (count : ℕ) (answer : Reply)
+    (new : State) : Type 0 where
+  pub says : answer ≡ reply.Fetched cursor (take count waiting.lines) (length (drop count waiting.lines))
+  pub keeps : new ≡ record old { cursors = fetched_from old.cursors cursor count }
+
+-- `fetch CUR N`
+abbrev pub FetchStep : State → List ℕ → ℕ → Reply → State → Type 0
+FetchStep old cursor count answer new = MatchOption (cursor_named old.cursors cursor)
+    (Refuses (refused.unknown_cursor (canonical_name cursor)) old answer new)
+    (λ waiting. Fetches old cursor waiting count answer new)
+
+-- the cursor goes
+pub record Closes (old : State) (cursor : List ℕ) (answer : Reply) (new : State) : Type 0 where
+  pub says : answer ≡ reply.Closed cursor
+  pub drops : new ≡ record old { cursors = closed_from old.cursors cursor }
+
+-- `close CUR`
+abbrev pub CloseStep : State → List ℕ → Reply → State → Type 0
+CloseStep old cursor answer new = MatchOption (cursor_named old.cursors cursor)
+    (Refuses (refused.unknown_cursor (canonical_name cursor)) old answer new)
+    (λ waiting. Closes old cursor answer new)
 
 -- what a command may answer, with the file that it asks for
 abbrev pub CommandStep : State → Command → Option (List ℕ) → Reply → State → Type 0
@@ -180,9 +232,9 @@ CommandStep old (Load table name) file answer new = LoadStep old table file answ
 CommandStep old (Index table column) file answer new = IndexStep old table column answer new
 CommandStep old (Prepare name select) file answer new = PrepareStep old name select answer new
 CommandStep old (Run name args) file answer new = RunStep old name args answer new
-CommandStep old (Cursor cursor name args) file answer new = NotBuiltStep old answer new
-CommandStep old (Fetch cursor rows) file answer new = NotBuiltStep old answer new
-CommandStep old (Close cursor) file answer new = NotBuiltStep old answer new
+CommandStep old (Cursor cursor name args) file answer new = CursorStep old cursor name args answer new
+CommandStep old (Fetch cursor rows) file answer new = FetchStep old cursor rows answer new
+CommandStep old (Close cursor) file answer new = CloseStep old cursor answer new
 CommandStep old (Evict name plan) file answer new = EvictStep old name plan answer new
 CommandStep old (Show name) file answer new = ShowStep old name answer new
 

@@ -6,8 +6,6 @@
 //! the laws.
 #![tactic(auto)]
 
-/// The most cursors that are open.
-pub const CURSOR_LIMIT: usize = 16;
 /// The most plans that a statement's cache keeps, whatever the settings.
 pub const BUDGET_LIMIT: u16 = 256;
 /// The most candidates that are costed again for an instance, whatever the settings.
