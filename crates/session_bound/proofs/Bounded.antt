@@ -1,5 +1,5 @@
 -- Every execution along a chain of steps is within the bound.
-use Rattle.std.proofs.Common.{ℕ, ◌≡◌, ◌∙◌, ◌+◌, List, [], ◌∷◌, length, set, Option, Some, None, Result, Ok, Err}
+use Rattle.std.proofs.Common.{ℕ, ◌≡◌, ◌∙◌, ◌+◌, List, [], ◌∷◌, ◌++◌, length, map, set, Option, Some, None, Result, Ok, Err}
 use Rattle.std.proofs.Common.{MatchOption}
 use Rattle.std.proofs.Common.{MatchResult, ap, refl, sym, subst, subst₂}
 use Rattle.row_values.specs.Statements.{Statement}
@@ -7,6 +7,7 @@ use Rattle.row_values.specs.declared.refusals.Refusal.{Refusal}
 use Rattle.row_values.specs.declared.values.Value.{Value}
 use Rattle.sql_parser.specs.Statement.{Parts}
 use Rattle.statement_meaning.specs.Meaning.{meaning_of}
+use Rattle.statement_meaning.specs.Spelling.{row_line}
 use Rattle.cache_model.specs.Caches.{CacheState, top_numbered}
 use Rattle.cache_model.specs.Choices.{Choice, choice_of}
 use Rattle.cache_model.specs.Faithful.{IsFaithfulCache}
@@ -20,8 +21,9 @@ use Rattle.script_report.specs.declared.commands.Command.TheVariants.{Evict, Sho
 use Rattle.script_report.specs.declared.replies.Execution.{Execution}
 use Rattle.script_report.specs.declared.replies.Reply.{Reply}
 use Rattle.script_report.specs.declared.replies.Reply.TheVariants.{Evicted, Indexed, Loaded, Prepared, Ran, Refused}
-use Rattle.script_report.specs.declared.replies.Reply.TheVariants.{Shown}
+use Rattle.script_report.specs.declared.replies.Reply.TheVariants.{Closed, Fetched, Opened, Shown}
 use Rattle.catalog_model.specs.Catalogs.{find_statement, number_of, stats_now}
+use Rattle.catalog_model.specs.Held.{holding_refusal, versions_of}
 use Rattle.catalog_model.specs.Indexing.{indexing_of}
 use Rattle.catalog_model.specs.Instances.{Instance, instance_of}
 use Rattle.catalog_model.specs.Loading.{loading_of}
@@ -30,16 +32,18 @@ use Rattle.catalog_model.proofs.Measures.{measured, statement_found}
 use Rattle.session_model.specs.Executions.{IsExecution, rows_refusal}
 use Rattle.session_model.specs.Run.{Line, IsChain}
 use Rattle.session_model.specs.Session.{AreSettings, IsCacheOf, IsSession}
-use Rattle.session_model.specs.State.{State, cache_at, held_versions, initial_state}
+use Rattle.session_model.specs.State.{CursorState, State, cache_at, cursor_named, held_versions, holds_of}
+use Rattle.session_model.specs.State.{initial_state}
 use Rattle.session_model.specs.Step.{Step, CommandStep, LoadStep, IndexStep, PrepareStep, RunStep, InstanceStep}
-use Rattle.session_model.specs.Step.{EvictFrom}
+use Rattle.session_model.specs.Step.{CloseStep, Closes, CursorStep, EvictFrom, ExecutionStep, FetchStep, Fetches}
+use Rattle.session_model.specs.Step.{OpenInstanceStep, OpenStep, Opens}
 use Rattle.session_model.specs.Step.{EvictStep, ShowStep, Refuses, Loads, Indexes, Prepares, Executes}
 use Rattle.session_model.specs.Step.{Evicts, Shows, present_stats, present_tables, present_vector}
 use Rattle.session_model.specs.declared.settings.Settings.{Settings}
 use Rattle.session_model.proofs.EachCache.{each_at}
 use Rattle.session_model.proofs.Sessions.{first, kept, same_statement}
-use Rattle.session_bound.specs.Bound.{AreBounded, IsBoundedReply, claim_in}
-use Rattle.session_bound.specs.Ledger.{entered_by, ledger_after}
+use Rattle.session_bound.specs.Bound.{AreBounded, IsBounded, IsBoundedReply, claim_in}
+use Rattle.session_bound.specs.Ledger.{entered_by, ledger_after, with_execution}
 use Rattle.session_bound.specs.Laws.{BoundLaw, TakesStep}
 use Rattle.session_bound.proofs.Ledgers.{IsKnown, chosen_known, cleared_known, evicted_known, known_at, prepared_known}
 use Rattle.session_bound.proofs.Reuses.{IsGood, IsServed, chosen_good}
@@ -97,11 +101,18 @@ served_by ledger old name args instance number session known i numbered =
       entries = known_at ledger old.caches old.executions number known;
     }
 
-executed : (ledger : List Entry) (old new : State) (name : List ℕ) (args : List Value) (instance : Instance)
-    (reply : Reply) → IsSession old → KnownIn ledger old → instance_of old.catalog name args ≡ Ok instance
-    → Executes old name instance.statement instance.args reply new → Answers ledger old new reply
-executed ledger old new name args instance reply session known i e =
-    let step = e.step in
+-- what an execution is worth, and what is known after it
+record IsExecuted (ledger : List Entry) (old : State) (step_number : ℕ) (cache : CacheState) (execution : Execution)
+    : Type 0 where
+  pub bounded : IsBounded old ledger execution
+  pub known : IsKnown (with_execution old.catalog.statements execution ledger) (set old.caches step_number cache)
+      (old.executions + 1)
+
+executed_step : (ledger : List Entry) (old new : State) (name : List ℕ) (args : List Value) (instance : Instance)
+    → IsSession old → KnownIn ledger old → instance_of old.catalog name args ≡ Ok instance
+    → (step : ExecutionStep old name instance.statement instance.args new)
+    → IsExecuted ledger old step.number step.cache step.execution
+executed_step ledger old new name args instance session known i step =
     let shows = step.shows in
     let given : instance_of old.catalog name instance.args ≡ Ok instance =
     subst (λ (some : List Value). instance_of old.catalog name some ≡ Ok instance)
@@ -111,10 +122,7 @@ executed ledger old new name args instance reply session known i e =
     let good = execution_good ledger old step.number instance.statement
     (present_vector old instance.statement instance.args) step.execution step.cache name session.settings
     (served_by ledger old name args instance step.number session known i step.its_number) shows in
-    answers_as ledger old new
-    (record old { caches = set old.caches step.number step.cache; executions = old.executions + 1 })
-    reply (Ran step.execution _) e.says step.keeps
-    (record {
+    record {
       bounded = record {
         statement = instance.statement;
         args = instance.args;
@@ -135,7 +143,36 @@ executed ledger old new name args instance reply session known i e =
           (choice_of (cache_at old.caches step.number) instance.statement (present_stats old instance.statement)
           (present_vector old instance.statement instance.args) old.settings.lambda old.settings.recosts)
           shows.numbered shows.at shows.chosen known);
+    }
+
+executed : (ledger : List Entry) (old new : State) (name : List ℕ) (args : List Value) (instance : Instance)
+    (reply : Reply) → IsSession old → KnownIn ledger old → instance_of old.catalog name args ≡ Ok instance
+    → Executes old name instance.statement instance.args reply new → Answers ledger old new reply
+executed ledger old new name args instance reply session known i e =
+    let done = executed_step ledger old new name args instance session known i e.step in
+    answers_as ledger old new
+    (record old { caches = set old.caches e.step.number e.step.cache; executions = old.executions + 1 })
+    reply (Ran e.step.execution _) e.says e.step.keeps (record { bounded = done.bounded; known = done.known })
+
+opened : (ledger : List Entry) (old new : State) (cursor name : List ℕ) (args : List Value) (instance : Instance)
+    (reply : Reply) → IsSession old → KnownIn ledger old → instance_of old.catalog name args ≡ Ok instance
+    → Opens old cursor name instance.statement instance.args reply new → Answers ledger old new reply
+opened ledger old new cursor name args instance reply session known i o =
+    let done = executed_step ledger old o.middle name args instance session known i o.step in
+    let cursors : List CursorState = old.cursors ++ record {
+      name = cursor;
+      held = versions_of old.catalog.tables instance.statement;
+      lines = map row_line (meaning_of instance.statement (present_tables old instance.statement) instance.args);
+    } ∷ [] in
+    answers_as ledger old new
+    (record old {
+      caches = set old.caches o.step.number o.step.cache;
+      cursors = cursors;
+      executions = old.executions + 1;
     })
+    reply (Opened cursor o.step.execution) o.says
+    (o.keeps ∙ ap (λ (s : State). let with : State = record s { cursors = cursors } in with) o.step.keeps)
+    (record { bounded = done.bounded; known = done.known })
 
 -- Steps.
 
@@ -201,6 +238,38 @@ ran ledger old new name args reply session known step =
     (λ why r. refused ledger why old new reply known r))
     (λ why r. refused ledger why old new reply known r)
 
+cursored : (ledger : List Entry) (old new : State) (cursor name : List ℕ) (args : List Value) (reply : Reply)
+    → IsSession old → KnownIn ledger old → CursorStep old cursor name args reply new → Answers ledger old new reply
+cursored ledger old new cursor name args reply session known step =
+    by_option (Answers ledger old new reply) (holding_refusal (holds_of old.cursors) cursor)
+    (OpenStep old cursor name args reply new) (λ why. Refuses why old reply new) step
+    (λ from. by_result (Answers ledger old new reply) (instance_of old.catalog name args)
+    (λ instance. OpenInstanceStep old cursor name instance.statement instance.args reply new)
+    (λ why. Refuses why old reply new) from
+    (λ instance i s. by_option (Answers ledger old new reply)
+    (rows_refusal (length (meaning_of instance.statement (present_tables old instance.statement) instance.args)))
+    (Opens old cursor name instance.statement instance.args reply new)
+    (λ why. Refuses why old reply new) s (opened ledger old new cursor name args instance reply session known i)
+    (λ why r. refused ledger why old new reply known r))
+    (λ why r. refused ledger why old new reply known r))
+    (λ why r. refused ledger why old new reply known r)
+
+fetched : (ledger : List Entry) (old new : State) (cursor : List ℕ) (count : ℕ) (reply : Reply) → KnownIn ledger old
+    → FetchStep old cursor count reply new → Answers ledger old new reply
+fetched ledger old new cursor count reply known step =
+    by_option (Answers ledger old new reply) (cursor_named old.cursors cursor) (Refuses _ old reply new)
+    (λ waiting. Fetches old cursor waiting count reply new) step (λ r. refused ledger _ old new reply known r)
+    (λ waiting f. answers_as ledger old new _ reply (Fetched cursor _ _) f.says f.keeps
+    (record { bounded = tt; known = known }))
+
+closed : (ledger : List Entry) (old new : State) (cursor : List ℕ) (reply : Reply) → KnownIn ledger old
+    → CloseStep old cursor reply new → Answers ledger old new reply
+closed ledger old new cursor reply known step =
+    by_option (Answers ledger old new reply) (cursor_named old.cursors cursor) (Refuses _ old reply new)
+    (λ waiting. Closes old cursor reply new) step (λ r. refused ledger _ old new reply known r)
+    (λ waiting c. answers_as ledger old new _ reply (Closed cursor) c.says c.drops
+    (record { bounded = tt; known = known }))
+
 evicted : (ledger : List Entry) (old new : State) (name : List ℕ) (plan : ℕ) (reply : Reply) → KnownIn ledger old
     → EvictStep old name plan reply new → Answers ledger old new reply
 evicted ledger old new name plan reply known step =
@@ -231,11 +300,11 @@ command_answers ledger old new (Prepare name select) file reply session known st
 command_answers ledger old new (Run name args) file reply session known step =
     ran ledger old new name args reply session known step
 command_answers ledger old new (Cursor cursor name args) file reply session known step =
-    refused ledger _ old new reply known step
+    cursored ledger old new cursor name args reply session known step
 command_answers ledger old new (Fetch cursor rows) file reply session known step =
-    refused ledger _ old new reply known step
+    fetched ledger old new cursor rows reply known step
 command_answers ledger old new (Close cursor) file reply session known step =
-    refused ledger _ old new reply known step
+    closed ledger old new cursor reply known step
 command_answers ledger old new (Evict name plan) file reply session known step =
     evicted ledger old new name plan reply known step
 command_answers ledger old new (Show name) file reply session known step = shown ledger old new name reply known step

@@ -360,11 +360,13 @@ opens : (old : State) (cursor name : List ℕ) (q : Statement) (args : List Valu
     → Can (Opens old cursor name q args)
 opens old cursor name q args can = (
   reply.Opened cursor can.2.0.execution,
-  record can.1 { cursors = old.cursors ++ record {
-    name = cursor;
-    held = versions_of old.catalog.tables q;
-    lines = map row_line (meaning_of q (present_tables old q) args);
-  } ∷ [] },
+  record can.1 {
+    cursors = old.cursors ++ record {
+      name = cursor;
+      held = versions_of old.catalog.tables q;
+      lines = map row_line (meaning_of q (present_tables old q) args);
+    } ∷ [];
+  },
   record { middle = can.1; step = can.2.0; says = refl; keeps = refl },
 )
 

@@ -452,8 +452,10 @@ opened_keeps old new cursor name instance args reply session free i o =
       catalog = opened (holds_of old.cursors) cursor old.catalog q session.catalog;
       numbered = numbered_opened (holds_of old.cursors) cursor old.catalog q session.numbered;
       names = differ_opened (holds_of old.cursors) (hold_of new_cursor) may.0 session.cursor_names;
-      few = subst (λ n. n ≤ 16) (sym (length-append (holds_of old.cursors) (hold_of new_cursor ∷ []))) (omega (arith,
-          room));
+      few = subst (λ n. n ≤ 16) (sym (length-append (holds_of old.cursors) (hold_of new_cursor ∷ []))) (omega (
+        arith,
+        room,
+      ));
     } in
     let there : AreSoundCursors o.middle holds = subst (λ (s : State). AreSoundCursors s holds) (sym o.step.keeps)
     (record { catalog = sound.catalog; numbered = sound.numbered; names = sound.names; few = sound.few }) in

@@ -180,11 +180,13 @@ pub record Opens (old : State) (cursor name : List ℕ) (q : Statement) (args : 
   pub middle : State
   pub step : ExecutionStep old name q args middle
   pub says : answer ≡ reply.Opened cursor step.execution
-  pub keeps : new ≡ record middle { cursors = old.cursors ++ record {
-    name = cursor;
-    held = versions_of old.catalog.tables q;
-    lines = map row_line (meaning_of q (present_tables old q) args);
-  } ∷ [] }
+  pub keeps : new ≡ record middle {
+    cursors = old.cursors ++ record {
+      name = cursor;
+      held = versions_of old.catalog.tables q;
+      lines = map row_line (meaning_of q (present_tables old q) args);
+    } ∷ [];
+  }
 
 abbrev pub OpenInstanceStep : State → List ℕ → List ℕ → Statement → List Value → Reply → State → Type 0
 OpenInstanceStep old cursor name q args answer new =
