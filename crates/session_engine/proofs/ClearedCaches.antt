@@ -1,5 +1,5 @@
 -- Caches that are cleared one after the other.
-use Rattle.std.proofs.Common.{ℕ, zero, suc, ◌≡◌, ◌<◌, ◌≤◌, ◌∙◌, Bool, true, false, List, [], ◌∷◌, length, set, Option, Some, None}
+use Rattle.std.proofs.Common.{ℕ, zero, suc, ◌≡◌, ◌<◌, ◌≤◌, List, [], ◌∷◌, length, set, Some}
 use Rattle.std.proofs.Common.{ap, refl, sym, subst, arith, slice_get, slice_index_or}
 use Rattle.catalog_model.specs.Catalogs.{StatementState, reads_table}
 use Rattle.anchor_cache.specs.Contents.{Contents}
@@ -27,7 +27,8 @@ one_more_cleared zero table ss [] (n ∷ ns) cache d long less h one = absurd cc
 one_more_cleared zero table [] (o ∷ os) (n ∷ ns) cache d long less h one = absurd cc
 one_more_cleared zero table (s ∷ ss) (o ∷ os) (n ∷ ns) cache d long less h one =
     let same = same_first o n os ns h in (
-      subst (λ (old : Contents). IsClearedIf (reads_table table s.statement.places) old cache) (sym same.0) (one s refl),
+      subst (λ (old : Contents). IsClearedIf (reads_table table s.statement.places) old cache) (sym same.0)
+          (one s refl),
       same.1,
     )
 one_more_cleared (suc count) table [] olds news cache d long less h one = absurd h

@@ -1,14 +1,14 @@
 -- Sessions in which the cache of one statement has changed.
-use Rattle.std.proofs.Common.{ℕ, zero, suc, ◌≡◌, ◌<◌, ◌≤◌, ◌+◌, ◌==◌, ◌∙◌, ◌||◌, Bool, true, false, not, List, [], ◌∷◌, length, map, set, All}
-use Rattle.std.proofs.Common.{Option, Some, None, Result, Ok, Err, MatchOption, ap, ap₂, refl, sym, subst, arith, slice_get, slice_index_or, cond}
+use Rattle.std.proofs.Common.{ℕ, zero, suc, ◌≡◌, ◌<◌, ◌==◌, ◌∙◌, ◌||◌, Bool, true, false, not, List, [], ◌∷◌}
+use Rattle.std.proofs.Common.{length, map, set, All}
+use Rattle.std.proofs.Common.{Option, Some, None, ap, refl, sym, subst, arith}
+use Rattle.std.proofs.Common.{slice_get, slice_index_or, cond}
 use Rattle.std.specs.List.{filter}
 use Rattle.std.specs.Option.{option_map}
-use Rattle.std.specs.Str.{bytes_eq}
 use Rattle.row_values.specs.Names.{canonical_name}
 use Rattle.row_values.specs.Refusals.{unknown_plan, unknown_statement}
 use Rattle.row_values.specs.Statements.{Statement}
 use Rattle.row_values.specs.declared.refusals.Refusal.{Refusal}
-use Rattle.row_values.specs.declared.values.Value.{Value}
 use Rattle.plan_trees.specs.Statistics.{Statistics}
 use Rattle.plan_trees.specs.Trees.{TopTree}
 use Rattle.cache_model.specs.Caches.{CacheState, anchors_of, top_numbered, without}
@@ -17,17 +17,17 @@ use Rattle.anchor_cache.specs.Contents.{Contents, cached, has_number, has_plan, 
 use Rattle.anchor_cache.specs.declared.kept_plans.Kept.{Kept}
 use Rattle.script_report.specs.declared.replies.Reply.{Reply}
 use Rattle.script_report.specs.declared.replies.Reply.TheVariants as reply
-use Rattle.catalog_model.specs.Catalogs.{Catalog, StatementState, find_statement, number_of, stats_now}
-use Rattle.catalog_model.proofs.Numbers.{IsNumbered, numbered}
+use Rattle.catalog_model.specs.Catalogs.{Catalog, StatementState, number_of, stats_now}
+use Rattle.catalog_model.proofs.Numbers.{numbered}
 use Rattle.session_model.specs.Session.{EachWithCache, IsCacheOf, IsSession}
-use Rattle.session_model.specs.State.{State, cache_at}
-use Rattle.session_model.specs.Step.{EvictFrom, EvictStep, Evicts, Refuses, RunStep, ShowStep, Shows, anchor_shown, plan_shown}
+use Rattle.session_model.specs.State.{CursorState, State, cache_at}
+use Rattle.session_model.specs.Step.{EvictStep, Evicts, ShowStep, Shows, anchor_shown}
+use Rattle.session_model.specs.Step.{plan_shown}
 use Rattle.session_model.specs.declared.settings.Settings.{Settings}
-use Rattle.session_model.proofs.Sessions.{evict_keeps, run_keeps}
-use Rattle.session_engine.specs.Numbered.{Numbers}
+use Rattle.session_model.proofs.Sessions.{evict_keeps}
 use Rattle.session_engine.specs.Serving.{AreCosted, EachWithContents, IsCosted, IsServing, IsSessionKept, session_of}
-use Rattle.session_engine.proofs.KeptSessions.{IsThere, each_long, each_set_there, each_there, state_there, states_same}
-use Rattle.session_engine.proofs.KeptSessions.{states_set}
+use Rattle.session_engine.proofs.KeptSessions.{each_long, each_set_there, state_there, states_same}
+use Rattle.session_engine.proofs.KeptSessions.{states_set, with_states}
 
 -- Numbers.
 
@@ -42,9 +42,11 @@ pub number_less : (ss : List StatementState) (name : List ℕ) (number : ℕ) �
 number_less ss name number e = let one = numbered ss name number e in there_less ss number one.prepared one.there
 
 -- a cache of each statement that has a number
-pub cache_less : (catalog : Catalog) (caches : List Contents) (executions : ℕ) (settings : Settings) (number : ℕ)
-    → IsSessionKept catalog caches executions settings → number < length catalog.statements → number < length caches
-cache_less catalog caches executions settings number h less =
+pub cache_less : (catalog : Catalog) (caches : List Contents) (cursors : List CursorState) (executions : ℕ)
+    (settings : Settings) (number : ℕ)
+    → IsSessionKept catalog caches cursors executions settings → number < length catalog.statements → number < length
+    caches
+cache_less catalog caches cursors executions settings number h less =
     let long = each_long (AreCosted catalog) catalog.statements caches h.costed in omega (arith, less, long)
 
 faithful_there : (P : StatementState → CacheState → Type 0) (ss : List StatementState) (cs : List Contents) (number : ℕ)
@@ -67,11 +69,13 @@ costed_there P (s ∷ ss) (c ∷ cs) zero d prepared e h =
 costed_there P (s ∷ ss) (c ∷ cs) (suc number) d prepared e h = costed_there P ss cs number d prepared e h.1
 
 -- the cache at a number serves the statement of this number
-pub serving_there : (catalog : Catalog) (caches : List Contents) (executions : ℕ) (settings : Settings) (number : ℕ)
-    (d : Contents) (q : Statement) → IsSessionKept catalog caches executions settings
+pub serving_there : (catalog : Catalog) (caches : List Contents) (cursors : List CursorState) (executions : ℕ)
+    (settings : Settings) (number : ℕ)
+    (d : Contents) (q : Statement) → IsSessionKept catalog caches cursors executions settings
     → option_map (λ (s : StatementState). s.statement) (slice_get catalog.statements number) ≡ Some q
-    → IsServing q (stats_now catalog.tables catalog.weights q) executions settings.budget (slice_index_or caches number d)
-serving_there catalog caches executions settings number d q h e =
+    → IsServing q (stats_now catalog.tables catalog.weights q) executions settings.budget
+    (slice_index_or caches number d)
+serving_there catalog caches cursors executions settings number d q h e =
     by_found (slice_get catalog.statements number) refl e
   where
     by_found : (o : Option StatementState) → slice_get catalog.statements number ≡ o
@@ -81,7 +85,8 @@ serving_there catalog caches executions settings number d q h e =
     by_found None is k = absurd cc
     by_found (Some prepared) is k =
         let same : prepared.statement ≡ q = cc in
-        let own = faithful_there (IsCacheOf (session_of catalog caches executions settings)) catalog.statements caches
+        let own = faithful_there (IsCacheOf (session_of catalog caches cursors executions settings)) catalog.statements
+        caches
         number d prepared is h.session.caches in
         let costs = costed_there (AreCosted catalog) catalog.statements caches number d prepared is h.costed in
         subst (λ (p : Statement). IsServing p (stats_now catalog.tables catalog.weights p) executions settings.budget
@@ -95,28 +100,21 @@ abbrev pub AreCostedAt : Catalog → ℕ → Contents → Type 0
 AreCostedAt catalog number cache =
     (prepared : StatementState) → slice_get catalog.statements number ≡ Some prepared → AreCosted catalog prepared cache
 
-pub record IsSameSession (catalog : Catalog) (caches : List Contents) (executions : ℕ) (settings : Settings)
+pub record IsSameSession (catalog : Catalog) (caches : List Contents) (cursors : List CursorState) (executions : ℕ)
+    (settings : Settings)
     (number : ℕ) (cache : Contents) : Type 0 where
-  pub seen : session_of catalog (set caches number cache) executions settings
-      ≡ session_of catalog caches executions settings
-  pub kept : IsSessionKept catalog (set caches number cache) executions settings
+  pub seen : session_of catalog (set caches number cache) cursors executions settings
+      ≡ session_of catalog caches cursors executions settings
+  pub kept : IsSessionKept catalog (set caches number cache) cursors executions settings
 
-abbrev pub with_states : Catalog → ℕ → Settings → List CacheState → State
-with_states catalog executions settings caches = record {
-  catalog = catalog;
-  caches = caches;
-  cursors = [];
-  executions = executions;
-  settings = settings;
-}
-
-pub same_session : (catalog : Catalog) (caches : List Contents) (executions : ℕ) (settings : Settings) (number : ℕ)
-    (cache d : Contents) → IsSessionKept catalog caches executions settings
+pub same_session : (catalog : Catalog) (caches : List Contents) (cursors : List CursorState) (executions : ℕ)
+    (settings : Settings) (number : ℕ)
+    (cache d : Contents) → IsSessionKept catalog caches cursors executions settings
     → state_of cache ≡ state_of (slice_index_or caches number d) → AreCostedAt catalog number cache
-    → IsSameSession catalog caches executions settings number cache
-same_session catalog caches executions settings number cache d h same costs =
+    → IsSameSession catalog caches cursors executions settings number cache
+same_session catalog caches cursors executions settings number cache d h same costs =
     let states = states_same caches number cache d same in
-    let seen = ap (with_states catalog executions settings) states in
+    let seen = ap (with_states catalog cursors executions settings) states in
     record {
       seen = seen;
       kept = record {
@@ -137,7 +135,8 @@ has_top : (plans : List Kept) (number : ℕ) → has_plan plans number ≡ true
     → (t : TopTree) × (top_numbered (map cached plans) number ≡ Some t)
 has_top [] number e = absurd cc
 has_top (p ∷ ps) number e =
-    has_by (p.number == number) _ (has_plan ps number) (top_numbered (map cached ps) number) (λ k. has_top ps number k) e
+    has_by (p.number == number) _ (has_plan ps number) (top_numbered (map cached ps) number) (λ k. has_top ps number k)
+    e
 
 none_by : (b : Bool) (top : TopTree) (rest : Bool) (later : Option TopTree) → (rest ≡ false → later ≡ None)
     → (b || rest) ≡ false → cond b (Some top) later ≡ None
@@ -148,7 +147,8 @@ no_top : (plans : List Kept) (number : ℕ) → has_plan plans number ≡ false
     → top_numbered (map cached plans) number ≡ None
 no_top [] number e = refl
 no_top (p ∷ ps) number e =
-    none_by (p.number == number) _ (has_plan ps number) (top_numbered (map cached ps) number) (λ k. no_top ps number k) e
+    none_by (p.number == number) _ (has_plan ps number) (top_numbered (map cached ps) number) (λ k. no_top ps number k)
+    e
 
 -- what an eviction answers
 pub evicted_count : (b : Bool) (n anchors : ℕ) → Some anchors ≡ cond b (Some n) None → (b ≡ true) × (anchors ≡ n)
@@ -174,33 +174,39 @@ pub unknown_evict : (old : State) (name : List ℕ) (plan : ℕ) → number_of o
     → EvictStep old name plan (reply.Refused (unknown_statement (canonical_name name))) old
 unknown_evict old name plan none = rw none (record { says = refl; unchanged = refl })
 
-pub record IsEvicted (catalog : Catalog) (caches : List Contents) (executions : ℕ) (settings : Settings)
+pub record IsEvicted (catalog : Catalog) (caches : List Contents) (cursors : List CursorState) (executions : ℕ)
+    (settings : Settings)
     (name : List ℕ) (number plan anchors : ℕ) (cache : Contents) : Type 0 where
-  pub steps : EvictStep (session_of catalog caches executions settings) name plan (reply.Evicted name plan anchors)
-      (session_of catalog (set caches number cache) executions settings)
-  pub kept : IsSessionKept catalog (set caches number cache) executions settings
+  pub steps : EvictStep (session_of catalog caches cursors executions settings) name plan
+      (reply.Evicted name plan anchors)
+      (session_of catalog (set caches number cache) cursors executions settings)
+  pub kept : IsSessionKept catalog (set caches number cache) cursors executions settings
 
-pub evict_kept : (catalog : Catalog) (caches : List Contents) (executions : ℕ) (settings : Settings) (name : List ℕ)
-    (number plan anchors : ℕ) (cache d : Contents) → IsSessionKept catalog caches executions settings
+pub evict_kept : (catalog : Catalog) (caches : List Contents) (cursors : List CursorState) (executions : ℕ)
+    (settings : Settings) (name : List ℕ)
+    (number plan anchors : ℕ) (cache d : Contents) → IsSessionKept catalog caches cursors executions settings
     → number_of catalog.statements name ≡ Some number
     → has_plan (slice_index_or caches number d).plans plan ≡ true
     → anchors ≡ length (anchors_of (slice_index_or caches number d).anchors plan)
     → state_of cache ≡ without (state_of (slice_index_or caches number d)) plan
     → cache.plans ≡ filter (λ kept. not (has_number plan kept)) (slice_index_or caches number d).plans
-    → IsEvicted catalog caches executions settings name number plan anchors cache
-evict_kept catalog caches executions settings name number plan anchors cache d h is there count gone plans =
-    let old : State = session_of catalog caches executions settings in
-    let less = cache_less catalog caches executions settings number h (number_less catalog.statements name number is) in
+    → IsEvicted catalog caches cursors executions settings name number plan anchors cache
+evict_kept catalog caches cursors executions settings name number plan anchors cache d h is there count gone plans =
+    let old : State = session_of catalog caches cursors executions settings in
+    let less = cache_less catalog caches cursors executions settings number h
+    (number_less catalog.statements name number is) in
     let here = state_there caches number d less in
     let top = has_top (slice_index_or caches number d).plans plan there in
-    let after : session_of catalog (set caches number cache) executions settings
-    ≡ with_states catalog executions settings (set (map state_of caches) number (without (cache_at (map state_of caches)
+    let after : session_of catalog (set caches number cache) cursors executions settings
+    ≡ with_states catalog cursors executions settings (set (map state_of caches) number
+    (without (cache_at (map state_of caches)
     number) plan)) =
-    ap (with_states catalog executions settings)
+    ap (with_states catalog cursors executions settings)
     (states_set caches number cache
     ∙ ap (λ (c : CacheState). set (map state_of caches) number c)
     (gone ∙ ap (λ (c : CacheState). without c plan) (sym here))) in
-    let step = evicts old (session_of catalog (set caches number cache) executions settings) name number plan top.0
+    let step = evicts old (session_of catalog (set caches number cache) cursors executions settings) name number plan
+    top.0
     (reply.Evicted name plan anchors) is
     (ap (λ (c : CacheState). top_numbered c.plans plan) here ∙ top.1)
     (record {
@@ -211,7 +217,7 @@ evict_kept catalog caches executions settings name number plan anchors cache d h
     record {
       steps = step;
       kept = record {
-        session = evict_keeps old (session_of catalog (set caches number cache) executions settings) name plan _
+        session = evict_keeps old (session_of catalog (set caches number cache) cursors executions settings) name plan _
             h.session step;
         costed = each_set_there (AreCosted catalog) catalog.statements caches number cache
             (λ prepared found.
@@ -225,22 +231,25 @@ evict_kept catalog caches executions settings name number plan anchors cache d h
       };
     }
 
-pub no_evict_kept : (catalog : Catalog) (caches : List Contents) (executions : ℕ) (settings : Settings) (name : List ℕ)
-    (number plan : ℕ) (d : Contents) → IsSessionKept catalog caches executions settings
+pub no_evict_kept : (catalog : Catalog) (caches : List Contents) (cursors : List CursorState) (executions : ℕ)
+    (settings : Settings) (name : List ℕ)
+    (number plan : ℕ) (d : Contents) → IsSessionKept catalog caches cursors executions settings
     → number_of catalog.statements name ≡ Some number
     → has_plan (slice_index_or caches number d).plans plan ≡ false
-    → EvictStep (session_of catalog caches executions settings) name plan (reply.Refused (unknown_plan plan))
-    (session_of catalog caches executions settings)
-no_evict_kept catalog caches executions settings name number plan d h is none =
-    let less = cache_less catalog caches executions settings number h (number_less catalog.statements name number is) in
-    no_evict (session_of catalog caches executions settings) name number plan is
+    → EvictStep (session_of catalog caches cursors executions settings) name plan (reply.Refused (unknown_plan plan))
+    (session_of catalog caches cursors executions settings)
+no_evict_kept catalog caches cursors executions settings name number plan d h is none =
+    let less = cache_less catalog caches cursors executions settings number h
+    (number_less catalog.statements name number is) in
+    no_evict (session_of catalog caches cursors executions settings) name number plan is
     (ap (λ (c : CacheState). top_numbered c.plans plan) (state_there caches number d less)
     ∙ no_top (slice_index_or caches number d).plans plan none)
 
-pub costed_at : (catalog : Catalog) (caches : List Contents) (executions : ℕ) (settings : Settings) (number : ℕ)
-    (cache d : Contents) → IsSessionKept catalog caches executions settings
+pub costed_at : (catalog : Catalog) (caches : List Contents) (cursors : List CursorState) (executions : ℕ)
+    (settings : Settings) (number : ℕ)
+    (cache d : Contents) → IsSessionKept catalog caches cursors executions settings
     → cache.plans ≡ (slice_index_or caches number d).plans → AreCostedAt catalog number cache
-costed_at catalog caches executions settings number cache d h same = λ prepared found.
+costed_at catalog caches cursors executions settings number cache d h same = λ prepared found.
     subst (λ (ps : List Kept). All (IsCosted prepared.statement
     (stats_now catalog.tables catalog.weights prepared.statement)) ps) (sym same)
     (costed_there (AreCosted catalog) catalog.statements caches number d prepared found h.costed)
@@ -256,22 +265,25 @@ pub unknown_show : (old : State) (name : List ℕ) → number_of old.catalog.sta
     → ShowStep old name (reply.Refused (unknown_statement (canonical_name name))) old
 unknown_show old name none = rw none (record { says = refl; unchanged = refl })
 
-pub show_kept : (catalog : Catalog) (caches : List Contents) (executions : ℕ) (settings : Settings) (name : List ℕ)
-    (number : ℕ) (d : Contents) (q : Statement) (answer : Reply) → IsSessionKept catalog caches executions settings
+pub show_kept : (catalog : Catalog) (caches : List Contents) (cursors : List CursorState) (executions : ℕ)
+    (settings : Settings) (name : List ℕ)
+    (number : ℕ) (d : Contents) (q : Statement) (answer : Reply) → IsSessionKept catalog caches cursors executions
+    settings
     → number_of catalog.statements name ≡ Some number
     → option_map (λ (s : StatementState). s.statement) (slice_get catalog.statements number) ≡ Some q
     → answer ≡ reply.Shown name
     (map (plan_shown q (slice_index_or caches number d).anchors) (state_of (slice_index_or caches number d)).plans)
     (map anchor_shown (slice_index_or caches number d).anchors)
-    → ShowStep (session_of catalog caches executions settings) name answer
-    (session_of catalog caches executions settings)
-show_kept catalog caches executions settings name number d q answer h is there says =
-    let less = cache_less catalog caches executions settings number h (number_less catalog.statements name number is) in
+    → ShowStep (session_of catalog caches cursors executions settings) name answer
+    (session_of catalog caches cursors executions settings)
+show_kept catalog caches cursors executions settings name number d q answer h is there says =
+    let less = cache_less catalog caches cursors executions settings number h
+    (number_less catalog.statements name number is) in
     let here = state_there caches number d less in
     let one = numbered catalog.statements name number is in
     let same : Some one.prepared.statement ≡ Some q =
     sym (ap (option_map (λ (s : StatementState). s.statement)) one.there) ∙ there in
-    shows (session_of catalog caches executions settings) name number answer is
+    shows (session_of catalog caches cursors executions settings) name number answer is
     (record {
       statement = q;
       prepared = one.found ∙ same;
@@ -282,16 +294,17 @@ show_kept catalog caches executions settings name number d q answer h is there s
 
 -- The same, of the cache that was read at its number.
 
-pub evicted : (catalog : Catalog) (caches : List Contents) (executions : ℕ) (settings : Settings) (name : List ℕ)
-    (number plan anchors : ℕ) (cache was : Contents) → IsSessionKept catalog caches executions settings
+pub evicted : (catalog : Catalog) (caches : List Contents) (cursors : List CursorState) (executions : ℕ)
+    (settings : Settings) (name : List ℕ)
+    (number plan anchors : ℕ) (cache was : Contents) → IsSessionKept catalog caches cursors executions settings
     → number_of catalog.statements name ≡ Some number → was ≡ slice_index_or caches number was
     → Some anchors ≡ cond (has_plan was.plans plan) (Some (length (anchors_of was.anchors plan))) None
     → state_of cache ≡ without (state_of was) plan
     → cache.plans ≡ filter (λ kept. not (has_number plan kept)) was.plans
-    → IsEvicted catalog caches executions settings name number plan anchors cache
-evicted catalog caches executions settings name number plan anchors cache was h is read count gone plans =
+    → IsEvicted catalog caches cursors executions settings name number plan anchors cache
+evicted catalog caches cursors executions settings name number plan anchors cache was h is read count gone plans =
     let there = evicted_count (has_plan was.plans plan) (length (anchors_of was.anchors plan)) anchors count in
-    evict_kept catalog caches executions settings name number plan anchors cache was h is
+    evict_kept catalog caches cursors executions settings name number plan anchors cache was h is
     (subst (λ (k : Contents). has_plan k.plans plan ≡ true) read there.0)
     (subst (λ (k : Contents). anchors ≡ length (anchors_of k.anchors plan)) read there.1)
     (subst (λ (k : Contents). state_of cache ≡ without (state_of k) plan) read gone)
@@ -304,23 +317,26 @@ evict_shown old now new name shown plan anchors same copy step =
     subst (λ (n : List ℕ). EvictStep now name plan (reply.Evicted n plan anchors) new) (sym copy)
     (subst (λ (s : State). EvictStep s name plan (reply.Evicted name plan anchors) new) same step)
 
-pub not_evicted : (catalog : Catalog) (caches : List Contents) (executions : ℕ) (settings : Settings) (now : State)
+pub not_evicted : (catalog : Catalog) (caches : List Contents) (cursors : List CursorState) (executions : ℕ)
+    (settings : Settings) (now : State)
     (name : List ℕ) (number plan : ℕ) (cache was : Contents) (why : Refusal)
-    → IsSessionKept catalog caches executions settings
-    → session_of catalog caches executions settings ≡ now
+    → IsSessionKept catalog caches cursors executions settings
+    → session_of catalog caches cursors executions settings ≡ now
     → number_of catalog.statements name ≡ Some number → was ≡ slice_index_or caches number was
     → None ≡ cond (has_plan was.plans plan) (Some (length (anchors_of was.anchors plan))) None → cache ≡ was
     → why ≡ unknown_plan plan
-    → EvictStep now name plan (reply.Refused why) (session_of catalog (set caches number cache) executions settings)
-not_evicted catalog caches executions settings now name number plan cache was why h view is read none same says =
-    let old : State = session_of catalog caches executions settings in
-    let step = no_evict_kept catalog caches executions settings name number plan was h is
+    → EvictStep now name plan (reply.Refused why) (session_of catalog (set caches number cache) cursors executions
+    settings)
+not_evicted catalog caches cursors executions settings now name number plan cache was why h view is read none same says
+    =
+    let old : State = session_of catalog caches cursors executions settings in
+    let step = no_evict_kept catalog caches cursors executions settings name number plan was h is
     (subst (λ (k : Contents). has_plan k.plans plan ≡ false) read
     (evicted_none (has_plan was.plans plan) (length (anchors_of was.anchors plan)) none)) in
-    let seen = ap (with_states catalog executions settings)
+    let seen = ap (with_states catalog cursors executions settings)
     (states_same caches number cache was (ap state_of (same ∙ read))) in
     subst (λ (answer : Reply). EvictStep now name plan answer
-    (session_of catalog (set caches number cache) executions settings)) (ap reply.Refused (sym says))
+    (session_of catalog (set caches number cache) cursors executions settings)) (ap reply.Refused (sym says))
     (subst (λ (s : State). EvictStep s name plan (reply.Refused (unknown_plan plan))
-    (session_of catalog (set caches number cache) executions settings)) view
+    (session_of catalog (set caches number cache) cursors executions settings)) view
     (subst (λ (s : State). EvictStep old name plan (reply.Refused (unknown_plan plan)) s) (sym seen) step))

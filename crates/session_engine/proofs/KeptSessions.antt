@@ -1,34 +1,30 @@
 -- Sessions as an engine keeps them: each command's step, and that the caches stay true of their statements.
-use Rattle.std.proofs.Common.{ℕ, zero, suc, ◌≡◌, ◌<◌, ◌≤◌, ◌+◌, ◌∙◌, Bool, true, false, List, [], ◌∷◌, ◌++◌, length, map, set, take, drop, append-nil, All}
-use Rattle.std.proofs.Common.{Option, Some, None, Result, Ok, Err, ap, ap₂, refl, sym, subst, arith, slice_get, slice_index_or, cond}
+use Rattle.std.proofs.Common.{ℕ, zero, suc, ◌≡◌, ◌<◌, ◌∙◌, Bool, true, false, List, [], ◌∷◌, ◌++◌, length}
+use Rattle.std.proofs.Common.{map, set, take, drop, append-nil, All}
+use Rattle.std.proofs.Common.{Some, Ok, ap, ap₂, refl, sym, subst, arith, slice_get}
+use Rattle.std.proofs.Common.{slice_index_or, cond}
 use Rattle.std.proofs.lemmas.List.{drop_all, take_all}
 use Rattle.std.proofs.lemmas.List.Elements.{All-nil}
 use Rattle.std.specs.Option.{option_map}
-use Rattle.std.specs.Str.{bytes_eq}
-use Rattle.row_values.specs.Names.{canonical_name}
-use Rattle.row_values.specs.Refusals.{unknown_plan}
 use Rattle.row_values.specs.Statements.{Statement, kinds_of}
-use Rattle.row_values.specs.declared.refusals.Refusal.{Refusal}
-use Rattle.row_values.specs.declared.values.Value.{Value}
 use Rattle.sql_parser.specs.Statement.{IsSound, Parts}
 use Rattle.plan_trees.specs.Statistics.{Statistics}
-use Rattle.cache_model.specs.Caches.{CachedPlan, CacheState, anchors_of, cleared, empty_cache, top_numbered, without}
+use Rattle.cache_model.specs.Caches.{CacheState, cleared, empty_cache}
 use Rattle.anchor_cache.specs.Contents.{Contents, cached, state_of}
 use Rattle.anchor_cache.specs.declared.kept_plans.Kept.{Kept}
 use Rattle.script_report.specs.declared.replies.Reply.{Reply}
 use Rattle.script_report.specs.declared.replies.Reply.TheVariants as reply
-use Rattle.catalog_model.specs.Catalogs.{Catalog, StatementState, Version, find_statement, number_of, reads_table}
+use Rattle.catalog_model.specs.Catalogs.{Catalog, StatementState, Version, reads_table}
 use Rattle.catalog_model.specs.Catalogs.{stats_now, with_index, with_statement, with_version}
 use Rattle.catalog_model.specs.Indexing.{indexing_of}
 use Rattle.catalog_model.specs.Loading.{loading_of}
 use Rattle.catalog_model.specs.Preparing.{preparing_of}
-use Rattle.catalog_model.proofs.Numbers.{position_next}
 use Rattle.catalog_model.proofs.Unread.{indexed_unread, loaded_unread}
-use Rattle.session_model.specs.State.{State, cache_at, cleared_for, held_versions}
-use Rattle.session_model.specs.Step.{Evicts, EvictStep, IndexStep, Indexes, LoadStep, Loads, PrepareStep, Prepares}
+use Rattle.session_model.specs.State.{CursorState, State, cache_at, cleared_for, held_versions}
+use Rattle.session_model.specs.Step.{IndexStep, Indexes, LoadStep, Loads, PrepareStep, Prepares}
 use Rattle.session_model.specs.declared.settings.Settings.{Settings}
-use Rattle.session_model.proofs.Sessions.{evict_keeps, index_keeps, load_keeps, prepare_keeps}
-use Rattle.session_engine.specs.Serving.{AreCleared, AreCosted, EachWithContents, IsClearedIf, IsCosted, IsServing}
+use Rattle.session_model.proofs.Sessions.{index_keeps, load_keeps, prepare_keeps}
+use Rattle.session_engine.specs.Serving.{AreCleared, AreCosted, EachWithContents, IsClearedIf, IsCosted}
 use Rattle.session_engine.specs.Serving.{IsSessionKept, session_of}
 
 -- Statements with what their caches hold.
@@ -75,6 +71,16 @@ each_set_there P (s ∷ ss) (c ∷ cs) zero cache p h = (p s refl, h.1)
 each_set_there P (s ∷ ss) (c ∷ cs) (suc number) cache p h = (h.0, each_set_there P ss cs number cache p h.1)
 
 -- What contracts see of caches.
+
+-- a state, by its caches
+abbrev pub with_states : Catalog → List CursorState → ℕ → Settings → List CacheState → State
+with_states catalog cursors executions settings caches = record {
+  catalog = catalog;
+  caches = caches;
+  cursors = cursors;
+  executions = executions;
+  settings = settings;
+}
 
 pub states_set : (cs : List Contents) (number : ℕ) (cache : Contents)
     → map state_of (set cs number cache) ≡ set (map state_of cs) number (state_of cache)
@@ -162,39 +168,39 @@ cleared_long table (s ∷ ss) (o ∷ os) (n ∷ ns) h = ap suc (cleared_long tab
 -- Loads and indexes.
 
 pub record IsKeptBy (step : State → State → Type 0) (catalog new : Catalog) (olds news : List Contents)
-    (executions after : ℕ) (settings : Settings) : Type 0 where
-  pub steps : step (session_of catalog olds executions settings) (session_of new news after settings)
-  pub kept : IsSessionKept new news after settings
+    (cursors : List CursorState) (executions after : ℕ) (settings : Settings) : Type 0 where
+  pub steps : step (session_of catalog olds cursors executions settings) (session_of new news cursors after settings)
+  pub kept : IsSessionKept new news cursors after settings
 
 loads : (old new : State) (name bytes : List ℕ) (version : Version) (answer : Reply)
     → loading_of (held_versions old.cursors) old.catalog name bytes ≡ Ok version → Loads old name version answer new
     → LoadStep old name (Some bytes) answer new
 loads old new name bytes version answer e l = rw e l
 
-pub load_kept : (catalog new : Catalog) (olds news : List Contents) (executions : ℕ) (settings : Settings)
-    (name bytes : List ℕ) (version : Version) → IsSessionKept catalog olds executions settings
-    → loading_of [] catalog name bytes ≡ Ok version → new ≡ with_version catalog name version
+pub load_kept : (catalog new : Catalog) (olds news : List Contents) (cursors : List CursorState) (executions : ℕ)
+    (settings : Settings) (name bytes : List ℕ) (version : Version) → IsSessionKept catalog olds cursors executions
+    settings
+    → loading_of (held_versions cursors) catalog name bytes ≡ Ok version → new ≡ with_version catalog name version
     → AreCleared name new.statements olds news
     → IsKeptBy (λ a b. LoadStep a name (Some bytes)
     (reply.Loaded name (length version.content.rows) (length version.content.schema)) b)
-    catalog new olds news executions executions settings
-load_kept catalog new olds news executions settings name bytes version h e made gone =
-    let old : State = session_of catalog olds executions settings in
+    catalog new olds news cursors executions executions settings
+load_kept catalog new olds news cursors executions settings name bytes version h e made gone =
+    let old : State = session_of catalog olds cursors executions settings in
     let gone' = subst (λ (k : Catalog). AreCleared name k.statements olds news) made gone in
-    let after : session_of new news executions settings ≡ record old {
+    let after : session_of new news cursors executions settings ≡ record old {
       catalog = with_version catalog name version;
       caches = cleared_for name catalog.statements (map state_of olds);
     } =
     ap₂ (λ (k : Catalog) (caches : List CacheState).
-    let s : State = record { catalog = k; caches = caches; cursors = []; executions = executions; settings = settings } in
-    s) made (cleared_states name catalog.statements olds news gone') in
-    let step = loads old (session_of new news executions settings) name bytes version
+    with_states k cursors executions settings caches) made (cleared_states name catalog.statements olds news gone') in
+    let step = loads old (session_of new news cursors executions settings) name bytes version
     (reply.Loaded name (length version.content.rows) (length version.content.schema)) e
     (record { says = refl; keeps = after }) in
     record {
       steps = step;
       kept = record {
-        session = load_keeps old (session_of new news executions settings) name (Some bytes) _ h.session step;
+        session = load_keeps old (session_of new news cursors executions settings) name (Some bytes) _ h.session step;
         costed = subst (λ (k : Catalog). EachWithContents (AreCosted k) k.statements news) (sym made)
             (cleared_costed catalog (with_version catalog name version) name
             (loaded_unread catalog.tables name version catalog.weights) catalog.statements olds news gone' h.costed);
@@ -226,28 +232,27 @@ indexes : (old new : State) (table column : List ℕ) (number : ℕ) (answer : R
     → IndexStep old table column answer new
 indexes old new table column number answer e i = rw e i
 
-pub index_kept : (catalog new : Catalog) (olds news : List Contents) (executions : ℕ) (settings : Settings)
-    (table column : List ℕ) (number : ℕ) → IsSessionKept catalog olds executions settings
+pub index_kept : (catalog new : Catalog) (olds news : List Contents) (cursors : List CursorState) (executions : ℕ)
+    (settings : Settings) (table column : List ℕ) (number : ℕ) → IsSessionKept catalog olds cursors executions settings
     → indexing_of catalog table column ≡ Ok number → new ≡ with_index catalog table number
     → AreCleared table new.statements olds news
-    → IsKeptBy (λ a b. IndexStep a table column (reply.Indexed table column) b) catalog new olds news executions executions
-    settings
-index_kept catalog new olds news executions settings table column number h e made gone =
-    let old : State = session_of catalog olds executions settings in
+    → IsKeptBy (λ a b. IndexStep a table column (reply.Indexed table column) b) catalog new olds news cursors executions
+    executions settings
+index_kept catalog new olds news cursors executions settings table column number h e made gone =
+    let old : State = session_of catalog olds cursors executions settings in
     let gone' = subst (λ (k : Catalog). AreCleared table k.statements olds news) made gone in
-    let after : session_of new news executions settings ≡ record old {
+    let after : session_of new news cursors executions settings ≡ record old {
       catalog = with_index catalog table number;
       caches = cleared_for table catalog.statements (map state_of olds);
     } =
     ap₂ (λ (k : Catalog) (caches : List CacheState).
-    let s : State = record { catalog = k; caches = caches; cursors = []; executions = executions; settings = settings } in
-    s) made (cleared_states table catalog.statements olds news gone') in
-    let step = indexes old (session_of new news executions settings) table column number (reply.Indexed table column) e
-    (record { says = refl; keeps = after }) in
+    with_states k cursors executions settings caches) made (cleared_states table catalog.statements olds news gone') in
+    let step = indexes old (session_of new news cursors executions settings) table column number
+    (reply.Indexed table column) e (record { says = refl; keeps = after }) in
     record {
       steps = step;
       kept = record {
-        session = index_keeps old (session_of new news executions settings) table column _ h.session step;
+        session = index_keeps old (session_of new news cursors executions settings) table column _ h.session step;
         costed = subst (λ (k : Catalog). EachWithContents (AreCosted k) k.statements news) (sym made)
             (cleared_costed catalog (with_index catalog table number) table
             (indexed_unread catalog.tables table number catalog.weights) catalog.statements olds news gone' h.costed);
@@ -266,24 +271,23 @@ states_behind : (cs : List Contents) (cache : Contents) → state_of cache ≡ e
 states_behind [] cache e = ap (λ (c : CacheState). c ∷ []) e
 states_behind (c ∷ cs) cache e = ap (λ (rest : List CacheState). state_of c ∷ rest) (states_behind cs cache e)
 
-pub prepare_kept : (catalog new : Catalog) (olds : List Contents) (cache : Contents) (executions : ℕ)
-    (settings : Settings) (name : List ℕ) (select : Parts) (q : Statement) → IsSound select
-    → IsSessionKept catalog olds executions settings → preparing_of catalog name select ≡ Ok q
+pub prepare_kept : (catalog new : Catalog) (olds : List Contents) (cache : Contents) (cursors : List CursorState)
+    (executions : ℕ) (settings : Settings) (name : List ℕ) (select : Parts) (q : Statement) → IsSound select
+    → IsSessionKept catalog olds cursors executions settings → preparing_of catalog name select ≡ Ok q
     → new ≡ with_statement catalog name q → state_of cache ≡ empty_cache
     → IsKeptBy (λ a b. PrepareStep a name select
     (reply.Prepared name (length q.places) (length q.preds) (length (kinds_of q.places q.preds))) b)
-    catalog new olds (olds ++ cache ∷ []) executions executions settings
-prepare_kept catalog new olds cache executions settings name select q parts h e made empty =
-    let old : State = session_of catalog olds executions settings in
+    catalog new olds (olds ++ cache ∷ []) cursors executions executions settings
+prepare_kept catalog new olds cache cursors executions settings name select q parts h e made empty =
+    let old : State = session_of catalog olds cursors executions settings in
     let news : List Contents = olds ++ cache ∷ [] in
-    let after : session_of new news executions settings ≡ record old {
+    let after : session_of new news cursors executions settings ≡ record old {
       catalog = with_statement catalog name q;
       caches = map state_of olds ++ empty_cache ∷ [];
     } =
     ap₂ (λ (k : Catalog) (caches : List CacheState).
-    let s : State = record { catalog = k; caches = caches; cursors = []; executions = executions; settings = settings } in
-    s) made (states_behind olds cache empty) in
-    let step = prepares old (session_of new news executions settings) name select q
+    with_states k cursors executions settings caches) made (states_behind olds cache empty) in
+    let step = prepares old (session_of new news cursors executions settings) name select q
     (reply.Prepared name (length q.places) (length q.preds) (length (kinds_of q.places q.preds))) e
     (record { says = refl; keeps = after }) in
     let none : cache.plans ≡ [] = no_plans cache.plans (ap (λ (state : CacheState). state.plans) empty) in
@@ -292,7 +296,8 @@ prepare_kept catalog new olds cache executions settings name select q parts h e 
     record {
       steps = step;
       kept = record {
-        session = prepare_keeps old (session_of new news executions settings) name select _ parts h.session step;
+        session = prepare_keeps old (session_of new news cursors executions settings) name select _ parts h.session
+            step;
         costed = subst (λ (k : Catalog). EachWithContents (AreCosted k) k.statements news) (sym made)
             (each_behind (AreCosted catalog) (AreCosted (with_statement catalog name q))
             (record { name = name; statement = q }) cache (λ s c k. k) own catalog.statements olds h.costed);

@@ -16,7 +16,8 @@ same_query : (p q : Statement) → Some p ≡ Some q → p ≡ q
 same_query p q e = cc
 
 -- the statement of the instance's number is the one that was wanted
-pub its_query : (name : List ℕ) (wanted : Result Instance Refusal) (catalog : Catalog) (args : List Value) (told : stored.Instance)
+pub its_query : (name : List ℕ) (wanted : Result Instance Refusal) (catalog : Catalog) (args : List Value)
+    (told : stored.Instance)
     (q : Statement) → (i : IsInstance name wanted catalog args told)
     → option_map (λ (s : StatementState). s.statement) (slice_get catalog.statements told.statement) ≡ Some q
     → i.query ≡ q
@@ -27,7 +28,8 @@ pub record IsTold (catalog : Catalog) (args : List Value) (told : stored.Instanc
   pub vector : IsSoundVector q told.stats told.at
   pub stats_are : told.stats ≡ stats_now catalog.tables catalog.weights q
 
-pub is_told : (name : List ℕ) (wanted : Result Instance Refusal) (catalog : Catalog) (args : List Value) (told : stored.Instance)
+pub is_told : (name : List ℕ) (wanted : Result Instance Refusal) (catalog : Catalog) (args : List Value)
+    (told : stored.Instance)
     (q : Statement) → IsInstance name wanted catalog args told
     → option_map (λ (s : StatementState). s.statement) (slice_get catalog.statements told.statement) ≡ Some q
     → IsTold catalog args told q

@@ -41,7 +41,8 @@ means q tables args combos k =
 
 -- and there are as many of them
 pub as_many : (q : Statement) (tables : List (List (List Value))) (args : List Value) (combos : List (List ℕ))
-    → in_order is_lower combos ≡ kept_combinations q tables args → length combos ≡ length (kept_combinations q tables args)
+    → in_order is_lower combos ≡ kept_combinations q tables args → length combos ≡ length
+    (kept_combinations q tables args)
 as_many q tables args combos k =
     sym (count_any (in_order is_lower combos) combos (λ c. times_in_order is_same is_lower combos c))
     ∙ ap (λ (some : List (List ℕ)). length some) k
@@ -109,7 +110,8 @@ executes_by : (o : Option Refusal) (P : Type 0) (Q : Refusal → Type 0) → o �
 executes_by o P Q e p = rw e p
 
 pub executed_run : (old new : State) (name : List ℕ) (args : List Value) (instance : Instance) (number : ℕ)
-    (before after : CacheState) (e : Execution) (lines : List (List ℕ)) → instance_of old.catalog name args ≡ Ok instance
+    (before after : CacheState) (e : Execution) (lines : List (List ℕ)) → instance_of old.catalog name args ≡ Ok
+    instance
     → number_of old.catalog.statements name ≡ Some number → cache_at old.caches number ≡ before →
     Ran old.settings (old.executions + 1) name instance.statement (present_tables old instance.statement) instance.args
     (present_stats old instance.statement) (present_vector old instance.statement instance.args) before e lines after

@@ -1,6 +1,8 @@
 -- What a cache that serves its statement gives to the checks, to a reuse, and to the keeping rule.
-use Rattle.std.proofs.Common.{ℕ, zero, suc, ◌≡◌, ◌≤◌, ◌<◌, ◌+◌, ◌*◌, ◌^◌, ◌==◌, ◌∙◌, Bool, true, false, cond, List, [], ◌∷◌, length, map, All}
-use Rattle.std.proofs.Common.{Result, Ok, Err, IfOk, ap₂, Option, Some, None, IfSome, ap, refl, sym, subst, arith, slice_index_or, slice_get, find}
+use Rattle.std.proofs.Common.{ℕ, zero, suc, ◌≡◌, ◌≤◌, ◌<◌, ◌+◌, ◌^◌, ◌==◌, ◌∙◌, Bool, true, false, cond, List, [], ◌∷◌}
+use Rattle.std.proofs.Common.{length, map, All}
+use Rattle.std.proofs.Common.{ap₂, Option, Some, None, IfSome, ap, refl, sym, subst, arith, slice_index_or, slice_get}
+use Rattle.std.proofs.Common.{find}
 use Rattle.std.specs.List.{AllByRecursion}
 use Rattle.std.specs.Option.{option_map}
 use Rattle.row_values.specs.Statements.{Statement, IsSoundQuery}
@@ -22,22 +24,19 @@ use Rattle.anchor_cache.specs.Contents.{Contents, cached, has_number, state_of}
 use Rattle.anchor_cache.specs.Instances.{HasCostAt, IsInstanceFor, cost_at}
 use Rattle.anchor_cache.specs.declared.anchors.Anchor.{Anchor}
 use Rattle.anchor_cache.specs.declared.kept_plans.Kept.{Kept}
-use Rattle.std.specs.declared.alloc.AllocError.{AllocError}
 use Rattle.std.specs.declared.alloc.Global.{Global}
 use Rattle.std.specs.declared.rc.Rc.{Rc}
-use Rattle.row_values.specs.declared.values.Value.{Value}
 use Rattle.cost_polynomials.specs.Polynomial.{IsVectorFor, value_of}
 use Rattle.plan_trees.specs.declared.plans.Top.{Top}
 use Rattle.cost_model.specs.Laws.{IsCost, IsVectorOf}
 use Rattle.cache_model.specs.Caches.{CacheState}
-use Rattle.cache_model.specs.Choices.{Choice, choice_of}
 use Rattle.plan_recost.specs.declared.kept_costs.Costed.{Costed}
 use Rattle.script_report.specs.declared.replies.Execution.{Execution}
 use Rattle.session_model.specs.Executions.{IsChosen, Reuses}
 use Rattle.session_model.specs.declared.settings.Settings.{Settings}
 use Rattle.session_engine.specs.declared.execution.Check.{Check}
 use Rattle.session_engine.specs.declared.execution.Check.TheVariants.{Cost, Selectivity}
-use Rattle.session_engine.specs.Executed.{Executed, ExecutedBy, certificate_of, reused_by, way_of}
+use Rattle.session_engine.specs.Executed.{certificate_of, reused_by, way_of}
 use Rattle.session_engine.specs.Keeping.{CostsAt}
 use Rattle.session_engine.specs.Serving.{IsCosted, IsServing}
 
@@ -105,7 +104,8 @@ anchor_read anchors all place anchor read same there is =
 abbrev top_kept : Kept → TopTree
 top_kept kept = top_tree kept.costed.plan.value
 
-numbered_by : (test : Bool) (kept : Kept) (rest : Option Kept) (later : Option TopTree) → later ≡ option_map top_kept rest
+numbered_by : (test : Bool) (kept : Kept) (rest : Option Kept) (later : Option TopTree) → later ≡ option_map top_kept
+    rest
     → cond test (Some (top_kept kept)) later ≡ option_map top_kept (cond test (Some kept) rest)
 numbered_by true kept rest later e = refl
 numbered_by false kept rest later e = e

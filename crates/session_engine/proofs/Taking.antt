@@ -1,5 +1,6 @@
 -- Combinations that a shaper takes one at a time, until none is left or there are too many.
-use Rattle.std.proofs.Common.{ℕ, ◌≡◌, ◌≤◌, ◌<◌, ◌+◌, ◌^◌, ◌∙◌, List, [], ◌∷◌, ◌++◌, length, length-append, append-nil, append_assoc}
+use Rattle.std.proofs.Common.{ℕ, ◌≡◌, ◌≤◌, ◌<◌, ◌+◌, ◌^◌, ◌∙◌, List, [], ◌∷◌, ◌++◌, length, length-append, append-nil}
+use Rattle.std.proofs.Common.{append_assoc}
 use Rattle.std.proofs.Common.{Option, Some, None, ap, sym, subst, refl, arith, IfNone}
 use Rattle.std.specs.Option.{option_to_list}
 use Rattle.row_values.specs.Statements.{Statement}

@@ -1,5 +1,5 @@
 -- Lists shown whole, by what is kept of them.
-use Rattle.std.proofs.Common.{ℕ, ◌≡◌, ◌≤◌, ◌<◌, ◌∙◌, List, [], ◌∷◌, length, map, take, ap, ap₂, refl, sym, arith}
+use Rattle.std.proofs.Common.{ℕ, ◌≡◌, ◌≤◌, ◌∙◌, List, [], ◌∷◌, length, map, take, ap, refl, arith}
 use Rattle.std.proofs.lemmas.List.{take_all}
 
 pub map_twice : {X Y Z : Type 0} (f : Y → Z) (g : X → Y) (xs : List X) → map (λ x. f (g x)) xs ≡ map f (map g xs)

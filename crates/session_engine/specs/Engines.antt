@@ -1,5 +1,7 @@
 -- What an engine is: a session, and counts.
-use Rattle.std.specs.Prelude.{ℕ, ◌≡◌, ◌⊎◌, ◌+◌, ◌*◌, ◌^◌, ◌≤◌, ◌<◌, Bool, true, false, List, Option, Some, None}
+use Rattle.std.specs.Prelude.{ℕ, ◌≡◌, ◌⊎◌, ◌+◌, ◌*◌, ◌^◌, ◌≤◌, ◌<◌, Bool, true, false, Option, Some, None, Result, Ok}
+use Rattle.std.specs.Prelude.{Err}
+use Rattle.row_values.specs.declared.refusals.Refusal.{Refusal}
 use Rattle.row_values.specs.declared.refusals.TheConstants.{TOO_MANY_ROWS}
 use Rattle.script_report.specs.declared.replies.Reply.{Reply}
 use Rattle.script_report.specs.declared.replies.By.{By}
@@ -58,9 +60,14 @@ IsAskedBy old (by.Selectivity anchor plan) new = new ≡ old
 IsAskedBy old (by.Cost anchor plan tried) new = new ≡ old
 
 -- the same where there were too many rows for one: once at most
-abbrev pub IsAskedFor : ℕ → Option (Execution × List (List ℕ)) → ℕ → Type 0
+abbrev pub IsAskedFor : {A : Type 0} → ℕ → Option (Execution × A) → ℕ → Type 0
 IsAskedFor old None new = MayAsk old new
 IsAskedFor old (Some ran) new = IsAskedBy old ran.0.by new
+
+-- the same, where it may be refused for another reason too: then not at all
+abbrev pub IsAskedIn : {A : Type 0} → ℕ → Result (Execution × A) Refusal → ℕ → Type 0
+IsAskedIn old (Ok ran) new = IsAskedBy old ran.0.by new
+IsAskedIn old (Err why) new = (new ≡ old) ⊎ ((why.code ≡ TOO_MANY_ROWS) × (new ≡ old + 1))
 
 -- how often for the answer to a line: as for its execution, not at all for another reply; once at most where there were
 -- too many rows or memory was short

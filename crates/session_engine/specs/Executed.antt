@@ -1,5 +1,6 @@
 -- What executing an instance gives.
 use Rattle.std.specs.Prelude.{ℕ, ◌≡◌, List, length, map, nat_le, true, false, Option, Some, None, Result, MatchResult}
+use Rattle.std.specs.Option.{option_map}
 use Rattle.row_values.specs.Statements.{Statement}
 use Rattle.row_values.specs.declared.values.Value.{Value}
 use Rattle.csv_tables.specs.StatementTables.{AreTablesOf, rows_in, tables_in}
@@ -31,7 +32,8 @@ use Rattle.session_engine.specs.declared.execution.Check.TheVariants.{Cost, Sele
 -- the rows that a statement means, or there are too many
 abbrev pub HasRowsOf : Statement → List (List (List Value)) → List Value → Result Rows RowsFault → Type 0
 HasRowsOf q tables args result = MatchResult result
-    (λ rows. (rows_seen q rows ≡ meaning_of q tables args) × (nat_le (length (meaning_of q tables args)) RESULT_LIMIT ≡ true))
+    (λ rows. (rows_seen q rows ≡ meaning_of q tables args) × (nat_le (length (meaning_of q tables args)) RESULT_LIMIT ≡
+    true))
     (IsRefusedRows (length (meaning_of q tables args)))
 
 -- the same of rows that were found, or of none since there are too many
@@ -80,6 +82,11 @@ pub record RanBy (choice : Choice) (settings : Settings) (number : ℕ) (name : 
   pub at : execution.at ≡ vector
   pub chosen : IsChosen settings number q s vector before plan execution after choice
   pub rows : lines ≡ map row_line (meaning_of q tables args)
+
+-- the execution, and the lines that its answer shows
+abbrev pub shown_by : {A : Type 0} → (A → List (List ℕ)) → Option (Execution × A)
+    → Option (Execution × List (List ℕ))
+shown_by lines ran = option_map (λ one. (one.0, lines one.1)) ran
 
 -- too many rows, and the cache is as it was; or the execution by this choice and its lines
 abbrev pub ExecutedBy : Choice → Settings → ℕ → List ℕ → Statement → List (List (List Value)) → List Value → Statistics

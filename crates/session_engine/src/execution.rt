@@ -1,9 +1,10 @@
 //! Executing an instance: a kept plan that a check lets through, else one of least cost, gives the rows that the
 //! statement means.
 //!
-//! Rows are shaped before the first row line is made, so too many are known before anything is written. All memory is
-//! taken before the cache changes: what fails leaves its plans and anchors as they were. The way in is `execute`.
-ghost use Rattle.std.specs.Prelude.{ℕ, ◌≡◌, ◌+◌, ◌<◌, ◌^◌, All, IfOk, IfSome, OnErr, find, map};
+//! Rows are shaped before anything is made of them, so too many are known before anything is written. All memory is
+//! taken before the cache changes, that of the answer too: what fails leaves its plans and anchors as they were. The way
+//! in is `execute`.
+ghost use Rattle.std.specs.Prelude.{ℕ, ◌≡◌, ◌+◌, ◌<◌, ◌^◌, All, IfOk, IfSome, OnErr, find};
 ghost use Rattle.std.specs.Option.{option_map};
 ghost use Rattle.csv_tables.specs.StatementTables.{rows_in, tables_in};
 ghost use Rattle.plan_trees.specs.PlanSpace.{IsValidTop};
@@ -12,13 +13,13 @@ ghost use Rattle.cache_model.specs.Choices.{ByOptimum};
 ghost use Rattle.cache_model.specs.Laws.{IsWithinBound};
 ghost use Rattle.anchor_cache.specs.Anchors.{held};
 ghost use Rattle.anchor_cache.specs.Contents.{has_number, state_of};
-ghost use Rattle.result_shape.specs.Rows.{rows_seen};
 ghost use Rattle.session_model.specs.Session.{AreSettings};
-ghost use Rattle.statement_meaning.specs.Spelling.{row_line};
 ghost use Rattle.session_engine.specs.Engines.{IsAskedBy, IsAskedFor, MayAsk};
-ghost use Rattle.session_engine.specs.Executed.{AreFewRows, Executed, ExecutedBy, IsReady, certificate_of, reused_by, way_of};
+ghost use Rattle.session_engine.specs.Executed.{AreFewRows, Executed, ExecutedBy, IsReady, certificate_of, reused_by};
+ghost use Rattle.session_engine.specs.Executed.{shown_by, way_of};
 ghost use Rattle.session_engine.specs.Serving.{IsCosted, IsServing};
 
+use crate::answers::Answer;
 use crate::choosing::{Choice, choose};
 use crate::keeping::{Optimum, keep};
 use crate::shaping::rows_by;
@@ -28,9 +29,9 @@ use plan_costs::{Best, Planner};
 use plan_operators::Source;
 use plan_recost::Costed;
 use plan_trees::{Top, print_plan};
-use result_shape::{Rows, RowsFault, row_text};
-use row_values::{OutOfMemory, Query, Words};
-use script_report::{By, Execution, KeptNote, Lines};
+use result_shape::{Rows, RowsFault};
+use row_values::{OutOfMemory, Words};
+use script_report::{By, Execution, KeptNote};
 use session_model::Settings;
 use session_store::Instance;
 use std::alloc::Global;
@@ -75,17 +76,6 @@ fn plan_numbered(plans: &[Kept], number: u64) -> Option<&Kept>
     plans.iter().find(|kept| kept.number == number)
 }
 
-/// The lines of result rows.
-fn row_lines(alloc: Global, q: &Query, rows: &Rows) -> Result<Lines, OutOfMemory>
-    ensures { IfOk result (λ lines. lines ≡ map row_line (rows_seen q.now rows.now)) }
-{
-    let mut lines = Lines::new(alloc);
-    for i in 0..rows.len() {
-        lines.push(row_text(alloc, q, rows, i)?)?;
-    }
-    Ok(lines)
-}
-
 /// The rows that the statement means, by this plan; none where there are too many.
 fn few_rows(
     alloc: Global,
@@ -106,7 +96,7 @@ fn few_rows(
 }
 
 /// The plan of the anchor at this place is used again.
-fn reuse(
+fn reuse<A: Answer>(
     alloc: Global,
     settings: Settings,
     executions: u64,
@@ -116,15 +106,15 @@ fn reuse(
     cache: &mut Cache,
     place: usize,
     check: Check,
-) -> Result<Option<(Execution, Lines)>, OutOfMemory>
+) -> Result<Option<(Execution, A)>, OutOfMemory>
     requires ready { IsReady source.now instance.now }
     requires few { executions < 2 ^ 62 }
     requires serving { IsServing source.now.q.now instance.now.stats executions settings.budget cache.old }
     requires bound { IsWithinBound (state_of cache.old) source.now.q.now instance.now.stats instance.now.at
         settings.lambda place }
-    ensures executed { IfOk result (ExecutedBy (reused_by check place) settings (executions + 1) name.now source.now.q.now
-        (rows_in (tables_in source.now.tables.now)) source.now.args.now instance.now.stats instance.now.at
-        (state_of cache.old) (state_of cache.new)) }
+    ensures executed { IfOk result (λ ran. ExecutedBy (reused_by check place) settings (executions + 1) name.now
+        source.now.q.now (rows_in (tables_in source.now.tables.now)) source.now.args.now instance.now.stats
+        instance.now.at (state_of cache.old) (state_of cache.new) (shown_by (A.lines source.now.q.now) ran)) }
     ensures failed { OnErr result (state_of cache.new ≡ state_of cache.old) }
     ensures costed { All (IsCosted source.now.q.now instance.now.stats) cache.new.plans }
     ensures told { IfOk result (λ ran. IfSome ran (λ r. (asked : ℕ) → IsAskedBy asked r.0.by asked)) }
@@ -148,13 +138,13 @@ fn reuse(
         kept: KeptNote::Reused,
         cert: certificate(check, anchor.execution),
     };
-    let lines = row_lines(alloc, source.q, &rows)?;
+    let answer = A::of(alloc, source.q, rows)?;
     cache.used(place);
-    Ok(Some((execution, lines)))
+    Ok(Some((execution, answer)))
 }
 
 /// The instance is optimised, and kept as far as the rule says.
-fn optimise<P: Planner>(
+fn optimise<P: Planner, A: Answer>(
     alloc: Global,
     planner: &mut P,
     settings: Settings,
@@ -164,16 +154,16 @@ fn optimise<P: Planner>(
     instance: &Instance,
     cache: &mut Cache,
     tried: u32,
-) -> Result<Option<(Execution, Lines)>, OutOfMemory>
+) -> Result<Option<(Execution, A)>, OutOfMemory>
     requires ready { IsReady source.now instance.now }
     requires room { P.asked planner.old < 2 ^ 63 }
     requires settings { AreSettings settings }
     requires few { executions < 2 ^ 62 }
     requires serving { IsServing source.now.q.now instance.now.stats executions settings.budget cache.old }
     ensures asked { P.asked planner.new ≡ P.asked planner.old + 1 }
-    ensures executed { IfOk result (ExecutedBy (ByOptimum tried) settings (executions + 1) name.now source.now.q.now
-        (rows_in (tables_in source.now.tables.now)) source.now.args.now instance.now.stats instance.now.at
-        (state_of cache.old) (state_of cache.new)) }
+    ensures executed { IfOk result (λ ran. ExecutedBy (ByOptimum tried) settings (executions + 1) name.now
+        source.now.q.now (rows_in (tables_in source.now.tables.now)) source.now.args.now instance.now.stats
+        instance.now.at (state_of cache.old) (state_of cache.new) (shown_by (A.lines source.now.q.now) ran)) }
     ensures failed { OnErr result (state_of cache.new ≡ state_of cache.old) }
     ensures costed { All (IsCosted source.now.q.now instance.now.stats) cache.new.plans }
     ensures told { IfOk result (λ ran. IfSome ran (λ r. (asked : ℕ) → IsAskedBy asked r.0.by (asked + 1))) }
@@ -188,7 +178,7 @@ fn optimise<P: Planner>(
     };
     let name = name.copy(alloc)?;
     let spelled = print_plan(alloc, source.q, &plan)?;
-    let lines = row_lines(alloc, source.q, &rows)?;
+    let answer = A::of(alloc, source.q, rows)?;
     let costed = Costed::of(alloc, source.q, &instance.stats, plan)?;
     cache.reserve_one()?;
     let number = executions + 1;
@@ -210,12 +200,12 @@ fn optimise<P: Planner>(
         kept: keeping.kept,
         cert: Cert::Optimum(potentials),
     };
-    Ok(Some((execution, lines)))
+    Ok(Some((execution, answer)))
 }
 
-/// What an execution is and its row lines; nothing where it has too many rows. A kept plan serves exactly where a check
+/// What an execution is and the answer of its rows; nothing where it has too many. A kept plan serves exactly where a check
 /// lets it through; else the planner is asked, once. So many executions were before it.
-pub fn execute<P: Planner>(
+pub fn execute<P: Planner, A: Answer>(
     alloc: Global,
     planner: &mut P,
     settings: Settings,
@@ -224,7 +214,7 @@ pub fn execute<P: Planner>(
     source: &Source<'_>,
     instance: &Instance,
     cache: &mut Cache,
-) -> Result<Option<(Execution, Lines)>, OutOfMemory>
+) -> Result<Option<(Execution, A)>, OutOfMemory>
     requires ready { IsReady source.now instance.now }
     requires room { P.asked planner.old < 2 ^ 63 }
     requires settings { AreSettings settings }
@@ -232,9 +222,9 @@ pub fn execute<P: Planner>(
     requires serving { IsServing source.now.q.now instance.now.stats executions settings.budget cache.old }
     ensures asked { IfOk result (λ ran. IsAskedFor (P.asked planner.old) ran (P.asked planner.new)) }
     ensures may_ask { MayAsk (P.asked planner.old) (P.asked planner.new) }
-    ensures executed { IfOk result (Executed settings (executions + 1) name.now source.now.q.now
+    ensures executed { IfOk result (λ ran. Executed settings (executions + 1) name.now source.now.q.now
         (rows_in (tables_in source.now.tables.now)) source.now.args.now instance.now.stats instance.now.at
-        (state_of cache.old) (state_of cache.new)) }
+        (state_of cache.old) (state_of cache.new) (shown_by (A.lines source.now.q.now) ran)) }
     ensures failed { OnErr result (state_of cache.new ≡ state_of cache.old) }
     ensures costed { All (IsCosted source.now.q.now instance.now.stats) cache.new.plans }
 {

@@ -5,14 +5,17 @@
 //! of memory each later one is answered `Spent`. The one way in is `Engine::step`.
 #![tactic(auto)]
 
+mod answers;
 mod choosing;
 mod clearing;
 mod engine;
 mod execution;
 mod keeping;
+mod running;
 mod session;
 mod shaping;
 mod showing;
+mod waiting;
 
 pub use engine::Engine;
 pub use session_model::Settings;

@@ -2,23 +2,22 @@
 ghost use Rattle.std.specs.Prelude.{◌≡◌, ◌<◌, ◌^◌, [], IfOk, OnErr, option_map, length};
 ghost use Rattle.row_values.specs.Statements.{kinds_of};
 ghost use Rattle.row_values.specs.Refusals.{refusal};
-ghost use Rattle.session_model.specs.State.{initial_state};
+ghost use Rattle.session_model.specs.State.{holds_of, initial_state};
 ghost use Rattle.session_model.specs.Session.{AreSettings};
-ghost use Rattle.session_model.specs.Step.{CommandStep, EvictStep, IndexStep, LoadStep, PrepareStep, RunStep, ShowStep};
+ghost use Rattle.session_model.specs.Step.{CloseStep, CommandStep, CursorStep, EvictStep, FetchStep, IndexStep};
+ghost use Rattle.session_model.specs.Step.{LoadStep};
+ghost use Rattle.session_model.specs.Step.{PrepareStep, RunStep, ShowStep};
 ghost use Rattle.session_engine.specs.Engines.{CountsOn, HasRoom, IsAsked, MayAsk};
-ghost use Rattle.session_engine.specs.Numbered.{Numbers};
+ghost use Rattle.session_engine.specs.Numbered.{Numbers, NumbersCursor};
 
 use crate::clearing::clear_for;
-use crate::execution::execute;
+use crate::running::run;
 use crate::showing::{shown_anchors, shown_plans};
+use crate::waiting::Waiting;
 use anchor_cache::Cache;
 use plan_costs::Planner;
 use plan_eviction::evict;
-use plan_operators::Source;
-use row_values::{
-    MISSING_FILE, NOT_BUILT, OutOfMemory, Query, Refusal, TOO_MANY_ROWS, Value, Words,
-    canonical_name,
-};
+use row_values::{MISSING_FILE, OutOfMemory, Query, Refusal, Value, Words, canonical_name};
 use script_report::{Command, Reply};
 use session_model::Settings;
 use session_store::{Store, StoreFault};
@@ -26,20 +25,22 @@ use sql_parser::Select;
 use std::alloc::Global;
 use std::marker::Model;
 
-/// The catalog, the plan cache of each statement in the order of the statements, the number of executions so far, and
-/// the settings; contracts see the session's state, in which each cache is true of its statement.
+/// The catalog and the open cursors, the plan cache of each statement and the rows that wait in each cursor, both in the
+/// store's order, the number of executions so far, and the settings; contracts see the session's state, in which each
+/// cache is true of its statement.
 #[derive(Drop)]
 pub struct Session {
     alloc: Global,
     store: Store,
     caches: Vec<Cache>,
+    waiting: Vec<Waiting>,
     executions: u64,
     settings: Settings,
 }
 
 impl Model for Session {
     ghost use Rattle.session_model.specs.State.{State};
-    ghost use Rattle.session_engine.specs.Serving.{IsSessionKept, session_of};
+    ghost use Rattle.session_engine.specs.Serving.{IsKeptWhole, session_in};
     ghost use Rattle.session_model.specs.Codes.{tree_code};
     ghost use Rattle.std.specs.Coded.{codes};
 
@@ -47,9 +48,9 @@ impl Model for Session {
 
     ghost coded = { Prim.hlevel (codes, tree_code) };
 
-    ghost view = { λ s. session_of s.store s.caches.items s.executions s.settings };
+    ghost view = { λ s. session_in s.store s.caches.items s.waiting.items s.executions s.settings };
 
-    ghost invariant = { λ s. IsSessionKept s.store s.caches.items s.executions s.settings };
+    ghost invariant = { λ s. IsKeptWhole s.store s.caches.items s.waiting.items s.executions s.settings };
 }
 
 /// The refusal that shows nothing.
@@ -82,6 +83,7 @@ impl Session {
             alloc,
             store: Store::new(alloc, settings.weights),
             caches: Vec::new(alloc),
+            waiting: Vec::new(alloc),
             executions: 0,
             settings,
         }
@@ -168,36 +170,134 @@ impl Session {
         ensures asked { IfOk result (λ reply. IsAsked (P.asked planner.old) reply (P.asked planner.new)) }
         ensures may_ask { MayAsk (P.asked planner.old) (P.asked planner.new) }
     {
-        let instance = match self.store.instance(name, args) {
-            Ok(instance) => instance,
-            Err(StoreFault::Refused(why)) => return Ok(Reply::Refused(why)),
-            Err(StoreFault::Memory) => return Err(OutOfMemory),
-        };
-        let tables = self.store.tables_of(instance.statement)?;
-        let indexes = self.store.indexes_of(instance.statement)?;
-        let source = Source {
-            q: self.store.query(instance.statement),
-            tables: &tables,
-            indexes: &indexes,
-            args,
-        };
-        let ran = execute(
+        let outcome = run(
             self.alloc,
             planner,
             self.settings,
             self.executions,
+            &self.store,
+            self.caches.as_mut_slice(),
             name,
-            &source,
-            &instance,
-            &mut self.caches[instance.statement as usize],
+            args,
         )?;
-        match ran {
-            None => Ok(refused(self.alloc, TOO_MANY_ROWS)),
-            Some((execution, rows)) => {
+        match outcome {
+            Err(why) => Ok(Reply::Refused(why)),
+            Ok((execution, rows)) => {
                 self.executions += 1;
                 Ok(Reply::Ran { execution, rows })
             }
         }
+    }
+
+    /// `cursor CUR NAME ARG*`.
+    fn cursor<P: Planner>(
+        &mut self,
+        planner: &mut P,
+        cursor: &Words,
+        name: &Words,
+        args: &[Value],
+    ) -> Result<Reply, OutOfMemory>
+        requires room { HasRoom self.old }
+        requires asks { P.asked planner.old < 2 ^ 63 }
+        ensures ok { IfOk result (λ reply. CursorStep self.old cursor.now name.now args.now reply self.new) }
+        ensures err { OnErr result (self.new ≡ self.old) }
+        ensures counts { CountsOn self.old self.new }
+        ensures asked { IfOk result (λ reply. IsAsked (P.asked planner.old) reply (P.asked planner.new)) }
+        ensures may_ask { MayAsk (P.asked planner.old) (P.asked planner.new) }
+    {
+        match self.store.may_hold(cursor) {
+            Ok(()) => {}
+            Err(StoreFault::Refused(why)) => return Ok(Reply::Refused(why)),
+            Err(StoreFault::Memory) => return Err(OutOfMemory),
+        }
+        let statement = match self.number_of(name)? {
+            Ok(statement) => statement,
+            Err(why) => return Ok(Reply::Refused(why)),
+        };
+        let shown = cursor.copy(self.alloc)?;
+        self.waiting.reserve(1)?;
+        // The store's growth comes before the cache changes; it is taken back where nothing is opened.
+        self.store.hold_cursor(cursor, statement)?;
+        let outcome = run(
+            self.alloc,
+            planner,
+            self.settings,
+            self.executions,
+            &self.store,
+            self.caches.as_mut_slice(),
+            name,
+            args,
+        );
+        match outcome {
+            Ok(Ok((execution, rows))) => {
+                self.executions += 1;
+                self.waiting.push_reserved(Waiting::new(statement, rows));
+                Ok(Reply::Opened {
+                    cursor: shown,
+                    execution,
+                })
+            }
+            Ok(Err(why)) => {
+                self.store.close_cursor(cursor);
+                Ok(Reply::Refused(why))
+            }
+            Err(fault) => {
+                self.store.close_cursor(cursor);
+                Err(fault)
+            }
+        }
+    }
+
+    /// The number of the open cursor of this name; or the refusal, where there is none.
+    fn cursor_number(&self, cursor: &Words) -> Result<Result<u32, Refusal>, OutOfMemory>
+        ensures { IfOk result (λ found. NumbersCursor (holds_of self.now.cursors) cursor.now found) }
+    {
+        match self.store.cursor_number(cursor) {
+            Some(number) => Ok(Ok(number)),
+            None => {
+                let shown = canonical_name(self.alloc, cursor.as_str())?;
+                Ok(Err(Refusal::unknown_cursor(shown)))
+            }
+        }
+    }
+
+    /// `fetch CUR N`.
+    fn fetch(&mut self, cursor: &Words, rows: u32) -> Result<Reply, OutOfMemory>
+        ensures ok { IfOk result (λ reply. FetchStep self.old cursor.now rows reply self.new) }
+        ensures err { OnErr result (self.new ≡ self.old) }
+        ensures counts { CountsOn self.old self.new }
+    {
+        let number = match self.cursor_number(cursor)? {
+            Ok(number) => number as usize,
+            Err(why) => return Ok(Reply::Refused(why)),
+        };
+        let shown = cursor.copy(self.alloc)?;
+        let count = rows as usize;
+        let waiting = &mut self.waiting[number];
+        let q = self.store.query(waiting.statement);
+        let lines = waiting.first(self.alloc, q, count)?;
+        waiting.skip(count);
+        Ok(Reply::Fetched {
+            cursor: shown,
+            rows: lines,
+            left: waiting.len() as u32,
+        })
+    }
+
+    /// `close CUR`.
+    fn close(&mut self, cursor: &Words) -> Result<Reply, OutOfMemory>
+        ensures ok { IfOk result (λ reply. CloseStep self.old cursor.now reply self.new) }
+        ensures err { OnErr result (self.new ≡ self.old) }
+        ensures counts { CountsOn self.old self.new }
+    {
+        let number = match self.cursor_number(cursor)? {
+            Ok(number) => number as usize,
+            Err(why) => return Ok(Reply::Refused(why)),
+        };
+        let shown = cursor.copy(self.alloc)?;
+        self.store.close_cursor(cursor);
+        self.waiting.remove(number);
+        Ok(Reply::Closed { cursor: shown })
     }
 
     /// The number of the statement of this name; or the refusal, where there is none.
@@ -273,13 +373,11 @@ impl Session {
             Command::Index { table, column } => self.index(table, column),
             Command::Prepare { name, select } => self.prepare(name, select),
             Command::Run { name, args } => self.run(planner, name, args.as_slice()),
-            Command::Cursor {
-                cursor: _,
-                name: _,
-                args: _,
-            } => Ok(refused(self.alloc, NOT_BUILT)),
-            Command::Fetch { cursor: _, rows: _ } => Ok(refused(self.alloc, NOT_BUILT)),
-            Command::Close { cursor: _ } => Ok(refused(self.alloc, NOT_BUILT)),
+            Command::Cursor { cursor, name, args } => {
+                self.cursor(planner, cursor, name, args.as_slice())
+            }
+            Command::Fetch { cursor, rows } => self.fetch(cursor, *rows),
+            Command::Close { cursor } => self.close(cursor),
             Command::Evict { name, plan } => self.evict(name, *plan),
             Command::Show { name } => self.show(name),
         }

@@ -462,7 +462,7 @@ opened_keeps old new cursor name instance args reply session free i o =
     recursored o.middle new (old.cursors ++ new_cursor ∷ []) holds middle (holds_behind old.cursors new_cursor) there
     o.keeps
 
-cursor_keeps : (old new : State) (cursor name : List ℕ) (args : List Value) (reply : Reply) → IsSession old
+pub cursor_keeps : (old new : State) (cursor name : List ℕ) (args : List Value) (reply : Reply) → IsSession old
     → CursorStep old cursor name args reply new → IsSession new
 cursor_keeps old new cursor name args reply session step =
     by_free (IsSession new) (holding_refusal (holds_of old.cursors) cursor)
@@ -478,7 +478,7 @@ cursor_keeps old new cursor name args reply session step =
     (λ why r. refused why old new reply session r))
     (λ why r. refused why old new reply session r)
 
-fetch_keeps : (old new : State) (cursor : List ℕ) (count : ℕ) (reply : Reply) → IsSession old
+pub fetch_keeps : (old new : State) (cursor : List ℕ) (count : ℕ) (reply : Reply) → IsSession old
     → FetchStep old cursor count reply new → IsSession new
 fetch_keeps old new cursor count reply session step =
     by_none (IsSession new) (cursor_named old.cursors cursor) (Refuses _ old reply new)
@@ -486,7 +486,7 @@ fetch_keeps old new cursor count reply session step =
     (λ waiting is f. recursored old new (fetched_from old.cursors cursor count) (holds_of old.cursors) session
     (holds_fetched old.cursors cursor count) (sound_cursors old session) f.keeps)
 
-close_keeps : (old new : State) (cursor : List ℕ) (reply : Reply) → IsSession old
+pub close_keeps : (old new : State) (cursor : List ℕ) (reply : Reply) → IsSession old
     → CloseStep old cursor reply new → IsSession new
 close_keeps old new cursor reply session step =
     by_none (IsSession new) (cursor_named old.cursors cursor) (Refuses _ old reply new)

@@ -1,6 +1,6 @@
 use Rattle.std.proofs.Common.{ℕ, ◌≡◌, List, All, ap, subst, sym}
 use Rattle.cost_model.specs.Costs.{top_cost}
-use Rattle.cache_model.specs.Choices.{ByCost, ByOptimum, BySelectivity, choice_of, position_chosen}
+use Rattle.cache_model.specs.Choices.{ByCost, BySelectivity, choice_of, position_chosen}
 use Rattle.anchor_cache.specs.Contents.{state_of}
 use Rattle.anchor_cache.specs.Instances.{IsInstanceFor}
 use Rattle.session_model.proofs.Reuse.{within_bound}

@@ -1,8 +1,7 @@
-use Rattle.std.proofs.Common.{ℕ, ◌≡◌, ◌≤◌, ◌+◌, ◌∙◌, List, All, ap, map, subst, sym, refl}
+use Rattle.std.proofs.Common.{ℕ, ◌≤◌, ◌+◌, ◌∙◌, List, All, ap, map, subst, sym, refl}
 use Rattle.std.specs.declared.alloc.Global.{Global}
 use Rattle.std.specs.declared.rc.Rc.{Rc}
 use Rattle.plan_trees.specs.Spelling.{top_text}
-use Rattle.plan_trees.specs.Statistics.{IsSoundVector}
 use Rattle.plan_trees.specs.Trees.{top_tree}
 use Rattle.plan_trees.specs.declared.plans.Top.{Top}
 use Rattle.plan_costs.specs.BestPlans.{IsBest}
@@ -44,7 +43,8 @@ returns-clause-executed g c =
     let found = subst (AreFewRows c.args.source.now.q.now (rows_in (tables_in c.args.source.now.tables.now))
     c.args.source.now.args.now) c.in-Some.is c.in_ok-rows.ensures in
     let costs = subst
-    (λ (ps : List Kept). All (CostsAt (top_cost c.args.source.now.q.now c.args.instance.now.stats c.args.instance.now.at)
+    (λ (ps : List Kept). All (CostsAt (top_cost c.args.source.now.q.now c.args.instance.now.stats
+    c.args.instance.now.at)
     c.args.instance.now.at) ps) (sym c.in_ok-reserve_one.ensures.plans)
     (costs_are c.args.source.now.q.now c.args.instance.now.stats c.args.executions c.args.settings.budget
     c.args.cache.now c.args.instance.now.at c.requires.serving c.requires.ready.vector) in
@@ -86,7 +86,7 @@ returns-clause-executed g c =
         by = refl;
         keeps = record { evicted = keeping.evicted; kept = keeping.kept; cache = sym keeping.cache };
       };
-      rows = c.in_ok-lines.ensures ∙ ap (map row_line) found.0;
+      rows = c.in_ok-answer.ensures ∙ ap (map row_line) found.0;
     }
 
 pub returns-clause-costed : goal.returns-clause-costed

@@ -1,4 +1,4 @@
-use Rattle.std.proofs.Common.{ℕ, ◌≡◌, ◌<◌, ◌+◌, ◌^◌, ◌∙◌, List, ap, map, subst, sym, refl}
+use Rattle.std.proofs.Common.{ℕ, ◌<◌, ◌+◌, ◌^◌, ◌∙◌, List, ap, map, subst, sym, refl}
 use Rattle.cost_polynomials.specs.Polynomial.{IsVectorFor, value_of}
 use Rattle.plan_trees.specs.PlanSpace.{IsValidTop}
 use Rattle.plan_trees.specs.Spelling.{top_text}
@@ -14,13 +14,13 @@ use Rattle.session_engine.proofs.Serving.{chosen_by, never_missing, reused_plan,
 use Rattle.session_engine.proofs.execution.reuse.Goals as goal
 
 pub unreachable-requires : goal.unreachable-requires
-unreachable-requires c =
+unreachable-requires g c =
     never_missing c.args.source.now.q.now c.args.instance.now.stats c.args.cache.now c.args.instance.now.at
     c.args.settings.lambda c.args.place c.anchors.result.now c.index-anchors-place.result c.plans.result.now
     c.requires.bound c.anchors.ensures.value c.index-anchors-place.is c.plans.ensures.value c.in_default.ensures
 
 pub few_rows-requires-clause-valid : goal.few_rows-requires-clause-valid
-few_rows-requires-clause-valid c =
+few_rows-requires-clause-valid g c =
     let reused = reused_plan c.args.source.now.q.now c.args.instance.now.stats c.args.executions c.args.settings.budget
     c.args.cache.now c.args.instance.now.at c.args.settings.lambda c.args.place c.anchors.result.now
     c.index-anchors-place.result c.plans.result.now c.in-Some.kept.now c.requires.serving c.requires.bound
@@ -29,7 +29,7 @@ few_rows-requires-clause-valid c =
     (sym (ap (λ (p : Top). top_tree p) c.deref.ensures ∙ reused.plan.same)) c.requires.bound.valid
 
 pub cost_at-requires-clause-vector : goal.cost_at-requires-clause-vector
-cost_at-requires-clause-vector c =
+cost_at-requires-clause-vector g c =
     let reused = reused_plan c.args.source.now.q.now c.args.instance.now.stats c.args.executions c.args.settings.budget
     c.args.cache.now c.args.instance.now.at c.args.settings.lambda c.args.place c.anchors.result.now
     c.index-anchors-place.result c.plans.result.now c.in-Some.kept.now c.requires.serving c.requires.bound
@@ -38,7 +38,7 @@ cost_at-requires-clause-vector c =
     (reused.plan.costed.fits c.args.instance.now.at c.requires.ready.vector).vector
 
 pub cost_at-requires-clause-fits : goal.cost_at-requires-clause-fits
-cost_at-requires-clause-fits c =
+cost_at-requires-clause-fits g c =
     let reused = reused_plan c.args.source.now.q.now c.args.instance.now.stats c.args.executions c.args.settings.budget
     c.args.cache.now c.args.instance.now.at c.args.settings.lambda c.args.place c.anchors.result.now
     c.index-anchors-place.result c.plans.result.now c.in-Some.kept.now c.requires.serving c.requires.bound
@@ -47,16 +47,16 @@ cost_at-requires-clause-fits c =
     (reused.plan.costed.fits c.args.instance.now.at c.requires.ready.vector).fits
 
 pub used-requires-clause-there : goal.used-requires-clause-there
-used-requires-clause-there c =
+used-requires-clause-there g c =
     within_anchors c.args.cache.now.anchors c.args.place c.requires.bound.anchor c.requires.bound.there
 
 pub used-requires-clause-fits : goal.used-requires-clause-fits
-used-requires-clause-fits c =
+used-requires-clause-fits g c =
     use_fits c.args.source.now.q.now c.args.instance.now.stats c.args.executions c.args.settings.budget c.args.cache.now
     c.args.place c.requires.bound.anchor c.requires.serving c.requires.few c.requires.bound.there
 
 pub returns-clause-executed : goal.returns-clause-executed
-returns-clause-executed c =
+returns-clause-executed g c =
     let reused = reused_plan c.args.source.now.q.now c.args.instance.now.stats c.args.executions c.args.settings.budget
     c.args.cache.now c.args.instance.now.at c.args.settings.lambda c.args.place c.anchors.result.now
     c.index-anchors-place.result c.plans.result.now c.in-Some.kept.now c.requires.serving c.requires.bound
@@ -91,5 +91,5 @@ returns-clause-executed c =
             not_kept = refl;
             uses = c.used.ensures.state;
           });
-      rows = c.in_ok-lines.ensures ∙ ap (map row_line) found.0;
+      rows = c.in_ok-answer.ensures ∙ ap (map row_line) found.0;
     }

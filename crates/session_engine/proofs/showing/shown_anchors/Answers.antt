@@ -1,4 +1,3 @@
-use Rattle.std.proofs.Common.{◌≡◌}
 use Rattle.anchor_cache.specs.Anchors.{held}
 use Rattle.session_model.specs.Step.{anchor_shown}
 use Rattle.session_engine.proofs.WholeLists.{shown_all}

@@ -1,4 +1,4 @@
-use Rattle.std.proofs.Common.{◌≡◌, ap, map}
+use Rattle.std.proofs.Common.{ap, map}
 use Rattle.anchor_cache.specs.Contents.{cached}
 use Rattle.session_model.specs.Step.{plan_shown}
 use Rattle.session_engine.proofs.WholeLists.{shown_all}
