@@ -681,9 +681,92 @@ fn tables_and_statements(rt: HostRuntime) -> Result<(), Fail> {
              anchor 1 plan 1 uses 1 cost 9895604649984 least 9895604649984 at\n\
              end\n\
              11 evicted g plan 1 anchors 1\n\
-             12 refused 21 not built yet\n\
-             13 refused 21 not built yet\n\
-             14 refused 21 not built yet\n",
+             12 opened c g execution 3\n\
+             plan hash_groups(seq(t))\n\
+             cost 9895604649984\n\
+             at\n\
+             by optimum tried 0\n\
+             kept plan 2 new\n\
+             cert {\"kind\":\"optimum\",\"least\":\"9895604649984\",\
+             \"table\":[{\"any\":\"3298534883328\",\"set\":1,\"sorted\":\"9895604649984\"}]}\n\
+             end\n\
+             13 fetched c\n\
+             row 1,1\n\
+             end 1 left 2\n\
+             14 closed c\n",
+            Status::DoneRefused,
+        ),
+        (
+            "a cursor outlives load and evict",
+            "load t t.csv\n\
+             prepare q SELECT v FROM t WHERE v < ?\n\
+             cursor c q 10\n\
+             fetch c 1\n\
+             evict q 1\n\
+             load t seven.csv\n\
+             fetch c 5\n\
+             fetch c 5\n\
+             close c\n\
+             fetch c 1\n",
+            "1 loaded t rows 3 columns 1\n\
+             2 prepared q tables 1 predicates 1 parameters 1\n\
+             3 opened c q execution 1\n\
+             plan rows(seq(t))\n\
+             cost 3298534883328\n\
+             at 2\n\
+             by optimum tried 0\n\
+             kept plan 1 new\n\
+             cert {\"kind\":\"optimum\",\"least\":\"3298534883328\",\
+             \"table\":[{\"any\":\"3298534883328\",\"set\":1,\"sorted\":null}]}\n\
+             end\n\
+             4 fetched c\n\
+             row 1\n\
+             end 1 left 1\n\
+             5 evicted q plan 1 anchors 1\n\
+             6 loaded t rows 1 columns 1\n\
+             7 fetched c\n\
+             row 5\n\
+             end 1 left 0\n\
+             8 fetched c\n\
+             end 0 left 0\n\
+             9 closed c\n\
+             10 refused 17 unknown cursor c\n",
+            Status::DoneRefused,
+        ),
+        (
+            "cursors that are refused hold nothing",
+            "load t t.csv\n\
+             prepare q SELECT v FROM t\n\
+             cursor c q\n\
+             cursor c q\n\
+             cursor d z\n\
+             cursor d q 1\n\
+             fetch d 1\n\
+             fetch c 1000000\n\
+             close c\n\
+             close c\n",
+            "1 loaded t rows 3 columns 1\n\
+             2 prepared q tables 1 predicates 0 parameters 0\n\
+             3 opened c q execution 1\n\
+             plan rows(seq(t))\n\
+             cost 3298534883328\n\
+             at\n\
+             by optimum tried 0\n\
+             kept plan 1 new\n\
+             cert {\"kind\":\"optimum\",\"least\":\"3298534883328\",\
+             \"table\":[{\"any\":\"3298534883328\",\"set\":1,\"sorted\":null}]}\n\
+             end\n\
+             4 refused 6 name taken c\n\
+             5 refused 5 unknown statement z\n\
+             6 refused 9 argument count 0\n\
+             7 refused 17 unknown cursor d\n\
+             8 fetched c\n\
+             row 1\n\
+             row 5\n\
+             row 12\n\
+             end 3 left 0\n\
+             9 closed c\n\
+             10 refused 17 unknown cursor c\n",
             Status::DoneRefused,
         ),
         (
