@@ -9,4 +9,4 @@
 pub mod laws;
 mod limits;
 
-pub use limits::ANCHOR_LIMIT;
+pub use limits::{ANCHOR_LIMIT, RECOST_LIMIT};

@@ -28,4 +28,4 @@ bind_refusal (bind.Misfit shown) = refused.misfit shown
 bind_refusal (bind.TooMany shown) = refused.too_many shown
 bind_refusal (bind.NotGrouped shown) = refused.not_grouped shown
 bind_refusal (bind.SumOfText shown) = refused.misfit shown
-bind_refusal bind.Memory = refused.not_built
+bind_refusal bind.Memory = refused.syntax

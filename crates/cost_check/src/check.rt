@@ -12,8 +12,9 @@ ghost use Rattle.anchor_cache.specs.Contents.{has_number, state_of};
 ghost use Rattle.anchor_cache.specs.Instances.{HasCostAt, IsInstanceFor, cost_at};
 ghost use Rattle.cost_check.specs.Answers.{as_choice, passes_by_cost};
 
-use crate::nearest::{RECOST_LIMIT, nearest_of};
+use crate::nearest::nearest_of;
 use anchor_cache::{Anchor, Cache, Kept};
+use cache_model::RECOST_LIMIT;
 use cost_polynomials::grown;
 use fraction_math::{Ratio, le_scaled};
 

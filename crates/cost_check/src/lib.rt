@@ -9,5 +9,5 @@
 mod check;
 mod nearest;
 
+pub use cache_model::RECOST_LIMIT;
 pub use check::{CostAnswer, by_cost};
-pub use nearest::RECOST_LIMIT;

@@ -6,9 +6,7 @@ ghost use Rattle.cost_check.specs.Nearest.{is_nearer as nearer, near_of, put_nea
 
 use anchor_cache::Anchor;
 use arrayvec::ArrayVec;
-
-/// The most anchors that one check costs: so many places are kept for them.
-pub const RECOST_LIMIT: usize = 64;
+use cache_model::RECOST_LIMIT;
 
 /// An anchor by where it stands, and how near it is: the greater and the lesser of each two numbers of its vector and
 /// the instance's, multiplied.

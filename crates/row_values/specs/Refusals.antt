@@ -27,7 +27,6 @@ refusal_words code =
     if code == number.UNKNOWN_PLAN then Some (codes "unknown plan") else
     if code == number.NOT_GROUPED then Some (codes "not grouped") else
     if code == number.STORE_LIMIT then Some (codes "store limit") else
-    if code == number.NOT_BUILT then Some (codes "not built yet") else
     None
 
 -- the refusal of this number, with what it shows
@@ -94,6 +93,3 @@ not_grouped part = refusal number.NOT_GROUPED part
 
 abbrev pub store_limit : List ℕ → Refusal
 store_limit limit = refusal number.STORE_LIMIT limit
-
-abbrev pub not_built : Refusal
-not_built = refusal number.NOT_BUILT []

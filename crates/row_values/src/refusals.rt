@@ -51,12 +51,9 @@ pub const UNKNOWN_PLAN: u8 = 18;
 pub const NOT_GROUPED: u8 = 19;
 /// More than the store keeps; which limit is shown.
 pub const STORE_LIMIT: u8 = 20;
-/// A line whose part of the language isn't built yet.
-pub const NOT_BUILT: u8 = 21;
 
 /// Why a script line was turned down: one of the numbers above, and what it shows (a text without a
-/// byte
-/// where it shows nothing).
+/// byte where it shows nothing).
 #[derive(Debug, Drop, PartialEq, Eq)]
 pub struct Refusal {
     pub code: u8,
@@ -88,7 +85,6 @@ pub fn refusal_words(code: u8) -> Option<&'static str>
         UNKNOWN_PLAN => Some("unknown plan"),
         NOT_GROUPED => Some("not grouped"),
         STORE_LIMIT => Some("store limit"),
-        NOT_BUILT => Some("not built yet"),
         _ => None,
     }
 }
@@ -253,12 +249,5 @@ impl Refusal {
         ensures { IfOk result (λ refusal. refusal ≡ refused.store_limit limit.now) }
     {
         Ok(Refusal::showing(STORE_LIMIT, Words::of(alloc, limit)?))
-    }
-
-    /// This part of the language isn't built yet. It takes no memory.
-    pub fn not_built(alloc: Global) -> Refusal
-        ensures { result ≡ refused.not_built }
-    {
-        Refusal::bare(alloc, NOT_BUILT)
     }
 }

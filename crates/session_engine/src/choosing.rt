@@ -14,7 +14,8 @@ ghost use Rattle.cost_check.specs.Answers.{as_choice};
 ghost use Rattle.session_engine.specs.Choosing.{chosen};
 
 use anchor_cache::Cache;
-use cost_check::{CostAnswer, RECOST_LIMIT, by_cost};
+use cache_model::RECOST_LIMIT;
+use cost_check::{CostAnswer, by_cost};
 use fraction_math::Ratio;
 use selectivity_check::by_selectivity;
 

@@ -3,11 +3,12 @@ use Rattle.std.specs.Prelude.{◌≤◌, ◌+◌, ◌*◌, List, [], ◌∷◌, 
 use Rattle.plan_trees.specs.Statistics.{AreWeights}
 use Rattle.cache_model.specs.Caches.{CacheState}
 use Rattle.cache_model.specs.Faithful.{IsFaithfulCache}
+use Rattle.cache_model.specs.declared.limits.TheConstants.{RECOST_LIMIT}
 use Rattle.catalog_model.specs.Catalogs.{StatementState, stats_now}
 use Rattle.catalog_model.specs.Held.{cursors_differ, present_versions}
 use Rattle.catalog_model.specs.Sound.{AreNumbered, IsCatalog}
 use Rattle.catalog_model.specs.declared.TheConstants.{CURSOR_LIMIT}
-use Rattle.session_model.specs.declared.TheConstants.{BUDGET_LIMIT, RECOST_LIMIT}
+use Rattle.session_model.specs.declared.TheConstants.{BUDGET_LIMIT}
 use Rattle.session_model.specs.declared.settings.Settings.{Settings}
 use Rattle.session_model.specs.State.{State, held_versions, holds_of}
 

@@ -8,8 +8,6 @@
 
 /// The most plans that a statement's cache keeps, whatever the settings.
 pub const BUDGET_LIMIT: u16 = 256;
-/// The most candidates that are costed again for an instance, whatever the settings.
-pub const RECOST_LIMIT: u8 = 64;
 /// The most rows of a result.
 pub const RESULT_LIMIT: usize = 1000000;
 

@@ -2,8 +2,8 @@
 use Rattle.std.proofs.Common.{◌≡◌, ◌≤◌, ◌<◌, ◌-◌, length, not, sym, ◌∙◌, ap, subst, arith}
 use Rattle.std.specs.List.{insert, position}
 use Rattle.std.proofs.lemmas.List.{length-take-le}
+use Rattle.cache_model.specs.declared.limits.TheConstants.{RECOST_LIMIT}
 use Rattle.cost_check.specs.declared.nearest.Near.{Near}
-use Rattle.cost_check.specs.declared.nearest.TheConstants.{RECOST_LIMIT}
 use Rattle.cost_check.specs.Nearest.{is_nearer}
 use Rattle.cost_check.proofs.Putting.{place_is, place_of, place_within, put_full, put_last, put_room}
 use Rattle.cost_check.proofs.nearest.put.Goals as goal
