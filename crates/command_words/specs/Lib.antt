@@ -1,0 +1,6 @@
+pub mod Jobs
+pub mod Numbers
+pub mod Items
+pub mod Settings
+pub mod NormalForm
+pub mod Views
