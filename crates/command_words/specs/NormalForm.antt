@@ -4,7 +4,7 @@ use Rattle.clap.specs.Words.{App, Row, Rule, first_of, matches_of, new_app, new_
 use Rattle.clap.specs.Simple.{on_top}
 use Rattle.command_words.specs.Jobs.{Mode, Options, Job}
 use Rattle.command_words.specs.Numbers.{◌>>=◌, number_between}
-use Rattle.command_words.specs.Settings.{Given, keep_of, lambda_of, one_file_mode, two_file_mode, weights_of}
+use Rattle.command_words.specs.Settings.{Given, keep_of, lambda_of, mode_of_one, mode_of_two, weights_named}
 
 -- The words that are given to clap: options that are given or have a default, and two positionals or three.
 pub record Plain : Type 0 where
@@ -112,8 +112,8 @@ plainly plain = record {
 
 -- the job that what was found asks for
 abbrev pub mode_found : Option (List ℕ) → Option (List ℕ) → Option (List ℕ) → Option Mode
-mode_found (Some command) (Some subject) None = one_file_mode command subject
-mode_found (Some command) (Some subject) (Some other) = two_file_mode command subject other
+mode_found (Some command) (Some subject) None = mode_of_one command subject
+mode_found (Some command) (Some subject) (Some other) = mode_of_two command subject other
 mode_found _ _ _ = None
 
 abbrev pub options_found : Found → Option Options
@@ -122,7 +122,7 @@ options_found found = do
   keep ← keep_of lambda found.keep
   budget ← found.budget >>= number_between 1 256
   recosts ← found.recosts >>= number_between 0 64
-  weights ← weights_of found.weights
+  weights ← weights_named found.weights
   Some (record { lambda = lambda; keep = keep; budget = budget; recosts = recosts; weights = weights })
 
 abbrev pub job_found : Found → Option Job

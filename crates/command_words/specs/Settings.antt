@@ -64,19 +64,21 @@ given_of items = do
 abbrev pub file_of : List ℕ → Option (List ℕ)
 file_of name = if length name == 0 then None else Some name
 
--- `run SCRIPT`, `verify SCRIPT REPORT` or `demo NUMBER`, its number from 1 to 1000
-abbrev pub one_file_mode : List ℕ → List ℕ → Option Mode
-one_file_mode command subject =
+-- with one word behind the mode: `run SCRIPT`, or `demo NUMBER`, its number from 1 to 1000
+abbrev pub mode_of_one : List ℕ → List ℕ → Option Mode
+mode_of_one command subject =
     if bytes_eq command (codes "run") then option_map Run (file_of subject)
     else (if bytes_eq command (codes "demo") then option_map Demo (number_between 1 1000 subject) else None)
 
-abbrev pub two_file_mode : List ℕ → List ℕ → List ℕ → Option Mode
-two_file_mode command subject other = if bytes_eq command (codes "verify")
+-- with two words behind the mode: `verify SCRIPT REPORT`
+abbrev pub mode_of_two : List ℕ → List ℕ → List ℕ → Option Mode
+mode_of_two command subject other = if bytes_eq command (codes "verify")
     then (file_of subject >>= λ script. option_map (Verify script) (file_of other)) else None
 
+-- The first positional is the mode; no mode has another number of words behind it.
 abbrev pub mode_of : List (List ℕ) → Option Mode
-mode_of (command ∷ subject ∷ []) = one_file_mode command subject
-mode_of (command ∷ subject ∷ other ∷ []) = two_file_mode command subject other
+mode_of (command ∷ subject ∷ []) = mode_of_one command subject
+mode_of (command ∷ subject ∷ other ∷ []) = mode_of_two command subject other
 mode_of _ = None
 
 abbrev pub one : Fraction
@@ -96,9 +98,9 @@ keep_of lambda (Some text) = fraction_of text >>= λ keep.
     if is_at_most one keep then (if is_at_most keep lambda then Some keep else None) else None
 
 -- the weights are those of a file only where one is named
-abbrev pub weights_of : Option (List ℕ) → Option (Option (List ℕ))
-weights_of None = Some None
-weights_of (Some name) = option_map Some (file_of name)
+abbrev pub weights_named : Option (List ℕ) → Option (Option (List ℕ))
+weights_named None = Some None
+weights_named (Some name) = option_map Some (file_of name)
 
 -- Lambda is 2, the budget 16 and the recosts 8 where they aren't given.
 abbrev pub options_of : Given → Option Options
@@ -107,7 +109,7 @@ options_of given = do
   keep ← keep_of lambda given.keep
   budget ← number_between 1 256 (unwrap_or given.budget (codes "16"))
   recosts ← number_between 0 64 (unwrap_or given.recosts (codes "8"))
-  weights ← weights_of given.weights
+  weights ← weights_named given.weights
   Some (record { lambda = lambda; keep = keep; budget = budget; recosts = recosts; weights = weights })
 
 abbrev pub job_of : Given → Option Job

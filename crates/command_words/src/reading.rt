@@ -73,7 +73,7 @@ fn keep(lambda: Ratio, text: Option<&str>) -> Option<Ratio>
 
 /// The file of the weights, where one is named.
 fn weights(alloc: Global, name: Option<&str>) -> Result<Option<Option<Words>>, OutOfMemory>
-    ensures { IfOk result (λ weights. weights ≡ settings.weights_of (views.text_if name.entry)) }
+    ensures { IfOk result (λ weights. weights ≡ settings.weights_named (views.text_if name.entry)) }
 {
     let Some(name) = name else {
         return Ok(Some(None));
@@ -84,10 +84,10 @@ fn weights(alloc: Global, name: Option<&str>) -> Result<Option<Option<Words>>, O
     Ok(Some(Some(file)))
 }
 
-/// What is done with one file or none: a script is run, or an example.
-fn one_file_mode(alloc: Global, command: &str, subject: &str) -> Result<Option<Mode>, OutOfMemory>
+/// What is to be done, with one word behind the mode: a script is run, or an example.
+fn mode_of_one(alloc: Global, command: &str, subject: &str) -> Result<Option<Mode>, OutOfMemory>
     ensures value { IfOk result (λ mode. option_map views.mode_view mode
-        ≡ settings.one_file_mode command.now subject.now) }
+        ≡ settings.mode_of_one command.now subject.now) }
     ensures bounds { IfOk result (λ mode. IfSome mode (λ found. IsNumbered (views.mode_view found))) }
 {
     if command == "run" {
@@ -105,15 +105,15 @@ fn one_file_mode(alloc: Global, command: &str, subject: &str) -> Result<Option<M
     Ok(None)
 }
 
-/// What is done with two files: a report of a script is verified.
-fn two_file_mode(
+/// What is to be done, with two words behind the mode: a report of a script is verified.
+fn mode_of_two(
     alloc: Global,
     command: &str,
     subject: &str,
     other: &str,
 ) -> Result<Option<Mode>, OutOfMemory>
     ensures value { IfOk result (λ mode. option_map views.mode_view mode
-        ≡ settings.two_file_mode command.now subject.now other.now) }
+        ≡ settings.mode_of_two command.now subject.now other.now) }
     ensures bounds { IfOk result (λ mode. IfSome mode (λ found. IsNumbered (views.mode_view found))) }
 {
     if command != "verify" {
@@ -143,11 +143,11 @@ fn mode_in(alloc: Global, found: &Found) -> Result<Option<Mode>, OutOfMemory>
     };
     match found.other {
         None => {
-            let mode = one_file_mode(alloc, command, subject)?;
+            let mode = mode_of_one(alloc, command, subject)?;
             Ok(mode)
         }
         Some(other) => {
-            let mode = two_file_mode(alloc, command, subject, other)?;
+            let mode = mode_of_two(alloc, command, subject, other)?;
             Ok(mode)
         }
     }
