@@ -1,0 +1,11 @@
+use Rattle.std.proofs.Common.{◌≡◌, ◌++◌, string_bytes}
+use Rattle.demo_script.specs.Draws.{after}
+use Rattle.demo_script.specs.Tables.{a_rows}
+use Rattle.demo_script.proofs.tables.push_a_rows.Given as goal
+
+-- the rows so far
+abbrev pub invariant-loop-before : goal.invariant-loop-before
+invariant-loop-before l = record {
+  rows : string_bytes l.text ≡ string_bytes l.fn.text ++ a_rows l.before l.fn.draws;
+  draws : l.draws ≡ after l.before l.fn.draws;
+}

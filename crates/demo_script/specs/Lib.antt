@@ -1,0 +1,5 @@
+pub mod Draws
+pub mod Examples
+pub mod Script
+pub mod Summary
+pub mod Tables
