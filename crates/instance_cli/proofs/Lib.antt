@@ -1,5 +1,6 @@
 pub mod Bounded
 pub mod Headlines
+pub mod Jobs
 pub mod Runs
 pub mod Scripts
 pub mod Served

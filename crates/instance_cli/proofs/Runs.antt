@@ -1,5 +1,7 @@
 -- Lines served one after the other, and their report. Nothing here looks into a step.
-use Rattle.std.proofs.Common.{ℕ, ◌≡◌, ◌<◌, ◌+◌, ◌∙◌, List, [], ◌∷◌, ◌++◌, Option, Some, None, take, drop, length, map, get_or, Bor, sym, ap, subst, refl, append_assoc, arith, Bool, true, false, ◌||◌, if◌then◌else◌}
+use Rattle.std.proofs.Common.{ℕ, ◌≡◌, ◌<◌, ◌+◌, ◌∙◌, List, [], ◌∷◌, ◌++◌, Option, Some, None, take, drop, length, map}
+use Rattle.std.proofs.Common.{get_or, Bor, sym, ap, subst, refl, append_assoc, arith, Bool, true, false, ◌||◌}
+use Rattle.std.proofs.Common.{if◌then◌else◌}
 use Rattle.std.proofs.lemmas.List.{take-append-drop, take_more, map-append, length-take-le, length-map}
 use Rattle.outside_model.specs.Files.{Files, Told}
 use Rattle.script_report.specs.Commands.{reading_of}

@@ -1,5 +1,6 @@
 -- From the lines of a script to its bytes: what was served goes on to a run of the whole script.
-use Rattle.std.proofs.Common.{ℕ, ◌≡◌, ◌≤◌, ◌<◌, ◌+◌, List, [], ◌∷◌, ◌++◌, Option, Some, None, length, sym, subst, refl, arith, Bool, true, false, ◌⊎◌, inl, inr, ◌==◌, if◌then◌else◌}
+use Rattle.std.proofs.Common.{ℕ, ◌≡◌, ◌≤◌, ◌<◌, ◌+◌, List, [], ◌∷◌, ◌++◌, Option, Some, None, length, sym, subst, refl}
+use Rattle.std.proofs.Common.{arith, Bool, true, false, ◌⊎◌, inl, inr, ◌==◌, if◌then◌else◌}
 use Rattle.std.specs.List.{slice_split}
 use Rattle.std.specs.Str.{IsUtf8}
 use Rattle.std.specs.Str.Lines.{lines, lines_of_parts}
@@ -12,14 +13,14 @@ use Rattle.outside_model.specs.Outside.{Outside}
 use Rattle.script_report.specs.Commands.{Reading, reading_of}
 use Rattle.script_report.specs.declared.replies.Reply.{Reply}
 use Rattle.session_model.specs.Run.{Line, IsChain, is_silent, spoken_from, spoken_lines}
-use Rattle.session_model.specs.Session.{IsSession}
+use Rattle.session_model.specs.Session.{AreSettings, IsSession}
 use Rattle.session_model.specs.Step.{CanStep, asks_for, file_of}
+use Rattle.session_model.specs.declared.settings.Settings.{Settings}
 use Rattle.session_model.proofs.Chains.{keeps}
 use Rattle.session_model.proofs.Progress.{goes_on}
 use Rattle.session_model.proofs.Sessions.{first, kept}
-use Rattle.instance_cli.proofs.Bounded.{bounded, default_are}
+use Rattle.instance_cli.proofs.Bounded.{bounded}
 use Rattle.instance_cli.specs.Bytes.{RunsLines, RunsBytes, RunsWhole, RunsInPart, EndsBy, first_moment}
-use Rattle.instance_cli.specs.Defaults.{default_settings}
 use Rattle.instance_cli.specs.Lines.{Stops, WritesInPart}
 use Rattle.instance_cli.specs.Moments.{Moment}
 use Rattle.instance_cli.specs.Report.{IsMissed, ServesLine, IsScript, ReportsRun, ReportsPrefix, EndsWith}
@@ -151,16 +152,18 @@ after_cut status.BadWeights files middle rest cut session spoken h = absurd h
 -- Scripts.
 
 -- the whole script was run
-whole : (bytes : List ℕ) (before after : Outside) (refused : Bool) → IsScript bytes
-    → RunsWhole (lines (script_of bytes)) before after refused → ReportsRun bytes before after refused
-whole bytes before after refused script h = record {
+whole : (settings : Settings) → AreSettings settings → (bytes : List ℕ) (before after : Outside) (refused : Bool)
+    → IsScript bytes → RunsWhole settings (lines (script_of bytes)) before after refused → ReportsRun settings bytes
+    before after refused
+whole settings are bytes before after refused script h = record {
   script = script;
   replies = h.2.replies;
-  first = first_moment before.misses;
+  first = first_moment settings before.misses;
   last = h.0;
   starts = record { state = refl; misses = omega arith };
   run = h.2.run;
-  bound = bounded before.files (first_moment before.misses) (spoken_lines (script_of bytes)) h.2.replies h.0 h.2.run
+  bound = bounded settings are before.files (first_moment settings before.misses) (spoken_lines (script_of bytes))
+      h.2.replies h.0 h.2.run
       refl;
   ends = h.1;
   took = h.2.took;
@@ -168,12 +171,13 @@ whole bytes before after refused script h = record {
 }
 
 -- it was cut short
-cut_short : (bytes : List ℕ) (before after : Outside) (result : Status) → IsScript bytes
-    → RunsInPart (lines (script_of bytes)) before after result → ReportsPrefix bytes before after result
-cut_short bytes before after result script h =
+cut_short : (settings : Settings) → AreSettings settings → (bytes : List ℕ) (before after : Outside) (result : Status)
+    → IsScript bytes → RunsInPart settings (lines (script_of bytes)) before after result
+    → ReportsPrefix settings bytes before after result
+cut_short settings are bytes before after result script h =
     let session : InSession h.middle =
     keeps (ServesLine before.files) InSession (serving_keeps before.files)
-    (first_moment before.misses) h.done h.replies h.middle (first default_settings default_are) h.run in
+    (first_moment settings before.misses) h.done h.replies h.middle (first settings are) h.run in
     let spoken : AreSpoken h.rest =
     spoken_rest h.done h.rest (subst AreSpoken h.parts (spoken_all 1 (lines (script_of bytes)))) in
     let g = after_cut result before.files h.middle h.rest h.cut session spoken h.next in
@@ -182,14 +186,15 @@ cut_short bytes before after result script h =
       done = h.done;
       rest = h.rest;
       parts = h.parts;
-      first = first_moment before.misses;
+      first = first_moment settings before.misses;
       middle = h.middle;
       last = g.last;
       replies = h.replies;
       others = g.others;
       starts = record { state = refl; misses = omega arith };
       run = h.run;
-      bound = bounded before.files (first_moment before.misses) h.done h.replies h.middle h.run refl;
+      bound = bounded settings are before.files (first_moment settings before.misses) h.done h.replies h.middle h.run
+          refl;
       ends = h.ends;
       goes_on = g.run;
       cut = h.cut;
@@ -217,9 +222,10 @@ by_unread result (inl e) long text = long e
 by_unread result (inr e) long text = text e
 
 -- a script that is too long
-pub long_bytes : (bytes : List ℕ) (before after : Outside) → SCRIPT_LIMIT < length bytes → after.taken ≡ before.taken
-    → RunsBytes bytes before after status.TooLong
-long_bytes bytes before after long same = record {
+pub long_bytes : (settings : Settings) (bytes : List ℕ) (before after : Outside) → SCRIPT_LIMIT < length bytes →
+    after.taken ≡ before.taken
+    → RunsBytes settings bytes before after status.TooLong
+long_bytes settings bytes before after long same = record {
   done = λ e. absurd cc;
   refused = λ e. absurd cc;
   short = λ other. absurd (other refl);
@@ -236,9 +242,10 @@ long_bytes bytes before after long same = record {
 }
 
 -- one that is no text
-pub no_text : (bytes : List ℕ) (before after : Outside) → length bytes ≤ SCRIPT_LIMIT → ¬ IsUtf8 (script_of bytes)
-    → after.taken ≡ before.taken → RunsBytes bytes before after status.NotText
-no_text bytes before after short not_utf8 same = record {
+pub no_text : (settings : Settings) (bytes : List ℕ) (before after : Outside) → length bytes ≤ SCRIPT_LIMIT → ¬ IsUtf8
+    (script_of bytes)
+    → after.taken ≡ before.taken → RunsBytes settings bytes before after status.NotText
+no_text settings bytes before after short not_utf8 same = record {
   done = λ e. absurd cc;
   refused = λ e. absurd cc;
   short = λ other. short;
@@ -255,9 +262,10 @@ no_text bytes before after short not_utf8 same = record {
 }
 
 -- memory was short before the first line
-pub no_memory : (bytes : List ℕ) (before after : Outside) → length bytes ≤ SCRIPT_LIMIT → after.taken ≡ before.taken
-    → RunsBytes bytes before after status.Memory
-no_memory bytes before after short same = record {
+pub no_memory : (settings : Settings) (bytes : List ℕ) (before after : Outside) → length bytes ≤ SCRIPT_LIMIT →
+    after.taken ≡ before.taken
+    → RunsBytes settings bytes before after status.Memory
+no_memory settings bytes before after short same = record {
   done = λ e. absurd cc;
   refused = λ e. absurd cc;
   short = λ other. short;
@@ -273,53 +281,57 @@ no_memory bytes before after short same = record {
   prefix = λ s. inl (same_taken before.taken after.taken same);
 }
 
-ends_at : (r s : Status) (texts : List (List ℕ)) (before after : Outside) → r ≡ s → EndsBy r texts before after
-    → EndsBy s texts before after
-ends_at r s texts before after e h = subst (λ (x : Status). EndsBy x texts before after) e h
+ends_at : (settings : Settings) (r s : Status) (texts : List (List ℕ)) (before after : Outside) → r ≡ s → EndsBy r
+    settings texts before after
+    → EndsBy s settings texts before after
+ends_at settings r s texts before after e h = subst (λ (x : Status). EndsBy x settings texts before after) e h
 
 -- its lines were run
-pub bytes_run : (bytes : List ℕ) (texts : List (List ℕ)) (before after : Outside) (result : Status) → IsScript bytes
-    → texts ≡ lines (script_of bytes) → RunsLines texts before after result → RunsBytes bytes before after result
-bytes_run bytes texts before after result script same run =
-    let ends : EndsBy result (lines (script_of bytes)) before after =
-    subst (λ (ts : List (List ℕ)). EndsBy result ts before after) same run.ends in
+pub bytes_run : (settings : Settings) → AreSettings settings → (bytes : List ℕ) (texts : List (List ℕ))
+    (before after : Outside) (result : Status) → IsScript bytes → texts ≡ lines (script_of bytes)
+    → RunsLines settings texts before after result → RunsBytes settings bytes before after result
+bytes_run settings are bytes texts before after result script same run =
+    let ends : EndsBy result settings (lines (script_of bytes)) before after =
+    subst (λ (ts : List (List ℕ)). EndsBy result settings ts before after) same run.ends in
     record {
-      done = λ e. whole bytes before after false script (ends_at result status.Done _ before after e ends);
-      refused = λ e. whole bytes before after true script (ends_at result status.DoneRefused _ before after e ends);
+      done = λ e. whole settings are bytes before after false script
+          (ends_at settings result status.Done _ before after e ends);
+      refused = λ e. whole settings are bytes before after true script
+          (ends_at settings result status.DoneRefused _ before after e ends);
       short = λ other. script.short;
       read_fault = run.read_fault;
       write_fault = run.write_fault;
-      too_long = λ e. absurd (ends_at result status.TooLong _ before after e ends);
-      not_text = λ e. absurd (ends_at result status.NotText _ before after e ends);
-      usage = λ e. ends_at result status.Usage _ before after e ends;
-      missing = λ e. ends_at result status.Missing _ before after e ends;
-      rejected = λ e. ends_at result status.Rejected _ before after e ends;
-      bad_weights = λ e. ends_at result status.BadWeights _ before after e ends;
-      nothing = λ s. by_unread result s (λ e. absurd (ends_at result status.TooLong _ before after e ends))
-          (λ e. absurd (ends_at result status.NotText _ before after e ends));
+      too_long = λ e. absurd (ends_at settings result status.TooLong _ before after e ends);
+      not_text = λ e. absurd (ends_at settings result status.NotText _ before after e ends);
+      usage = λ e. ends_at settings result status.Usage _ before after e ends;
+      missing = λ e. ends_at settings result status.Missing _ before after e ends;
+      rejected = λ e. ends_at settings result status.Rejected _ before after e ends;
+      bad_weights = λ e. ends_at settings result status.BadWeights _ before after e ends;
+      nothing = λ s. by_unread result s (λ e. absurd (ends_at settings result status.TooLong _ before after e ends))
+          (λ e. absurd (ends_at settings result status.NotText _ before after e ends));
       prefix = λ s. inr (by_cut result s
-          (λ e. subst (ReportsPrefix bytes before after) (sym e)
-          (cut_short bytes before after status.ReadFault script
-          (ends_at result status.ReadFault _ before after e ends)))
-          (λ e. subst (ReportsPrefix bytes before after) (sym e)
-          (cut_short bytes before after status.WriteFault script
-          (ends_at result status.WriteFault _ before after e ends)))
-          (λ e. subst (ReportsPrefix bytes before after) (sym e)
-          (cut_short bytes before after status.Memory script
-          (ends_at result status.Memory _ before after e ends))));
+          (λ e. subst (ReportsPrefix settings bytes before after) (sym e)
+          (cut_short settings are bytes before after status.ReadFault script
+          (ends_at settings result status.ReadFault _ before after e ends)))
+          (λ e. subst (ReportsPrefix settings bytes before after) (sym e)
+          (cut_short settings are bytes before after status.WriteFault script
+          (ends_at settings result status.WriteFault _ before after e ends)))
+          (λ e. subst (ReportsPrefix settings bytes before after) (sym e)
+          (cut_short settings are bytes before after status.Memory script
+          (ends_at settings result status.Memory _ before after e ends))));
     }
 
 -- by which status lines were served in part
-pub in_part : (result : Status) (texts : List (List ℕ)) (before after : Outside) → RunsInPart texts before after result
-    → EndsBy result texts before after
-in_part status.ReadFault texts before after h = h
-in_part status.WriteFault texts before after h = h
-in_part status.Memory texts before after h = h
-in_part status.Done texts before after h = absurd h.next
-in_part status.DoneRefused texts before after h = absurd h.next
-in_part status.Usage texts before after h = absurd h.next
-in_part status.Missing texts before after h = absurd h.next
-in_part status.TooLong texts before after h = absurd h.next
-in_part status.NotText texts before after h = absurd h.next
-in_part status.Rejected texts before after h = absurd h.next
-in_part status.BadWeights texts before after h = absurd h.next
+pub in_part : (result : Status) (settings : Settings) (texts : List (List ℕ)) (before after : Outside)
+    → RunsInPart settings texts before after result → EndsBy result settings texts before after
+in_part status.ReadFault settings texts before after h = h
+in_part status.WriteFault settings texts before after h = h
+in_part status.Memory settings texts before after h = h
+in_part status.Done settings texts before after h = absurd h.next
+in_part status.DoneRefused settings texts before after h = absurd h.next
+in_part status.Usage settings texts before after h = absurd h.next
+in_part status.Missing settings texts before after h = absurd h.next
+in_part status.TooLong settings texts before after h = absurd h.next
+in_part status.NotText settings texts before after h = absurd h.next
+in_part status.Rejected settings texts before after h = absurd h.next
+in_part status.BadWeights settings texts before after h = absurd h.next

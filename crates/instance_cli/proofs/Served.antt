@@ -1,5 +1,6 @@
 -- One line: what it was served with, and its reply.
-use Rattle.std.proofs.Common.{ℕ, ◌≡◌, ◌≤◌, ◌∙◌, List, [], ◌∷◌, ◌++◌, take, Bool, true, false, IsSome, Option, Some, None, ◌⊎◌, inl, inr, sym, ap, subst, refl, append-nil, if◌then◌else◌}
+use Rattle.std.proofs.Common.{ℕ, ◌≡◌, ◌≤◌, ◌∙◌, List, [], ◌∷◌, ◌++◌, take, Bool, true, false, IsSome, Option, Some}
+use Rattle.std.proofs.Common.{None, ◌⊎◌, inl, inr, sym, ap, subst, refl, append-nil, if◌then◌else◌}
 use Rattle.std.specs.Option.{option_map}
 use Rattle.outside_model.specs.declared.TheConstants.{FILE_LIMIT}
 use Rattle.outside_model.specs.Files.{Files, Told, up_to}

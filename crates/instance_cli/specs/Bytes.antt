@@ -6,7 +6,7 @@ use Rattle.outside_model.specs.declared.TheConstants.{SCRIPT_LIMIT}
 use Rattle.outside_model.specs.Outside.{Outside}
 use Rattle.session_model.specs.Run.{spoken_from}
 use Rattle.session_model.specs.State.{initial_state}
-use Rattle.instance_cli.specs.Defaults.{default_settings}
+use Rattle.session_model.specs.declared.settings.Settings.{Settings}
 use Rattle.instance_cli.specs.Headline.{TookNothing}
 use Rattle.instance_cli.specs.Lines.{Reported, ReportedInPart}
 use Rattle.instance_cli.specs.Moments.{Moment}
@@ -16,43 +16,45 @@ use Rattle.instance_cli.specs.declared.outcome.Status.{Status}
 use Rattle.instance_cli.specs.declared.outcome.Status.TheVariants as status
 
 -- the first state, where so many files were missed before
-abbrev pub first_moment : ℕ → Moment
-first_moment misses = record { state = initial_state default_settings; misses = misses }
+abbrev pub first_moment : Settings → ℕ → Moment
+first_moment settings misses = record { state = initial_state settings; misses = misses }
 
 -- all lines of these texts were served
-abbrev pub RunsWhole : List (List ℕ) → Outside → Outside → Bool → Type 0
-RunsWhole texts before after refused = (last : Moment) × (last.misses ≤ after.misses)
-    × Reported before.files before.taken after.taken (first_moment before.misses) (spoken_from 1 texts) last refused
+abbrev pub RunsWhole : Settings → List (List ℕ) → Outside → Outside → Bool → Type 0
+RunsWhole settings texts before after refused = (last : Moment) × (last.misses ≤ after.misses)
+    × Reported before.files before.taken after.taken (first_moment settings before.misses) (spoken_from 1 texts) last
+    refused
 
 -- the first of them were
-abbrev pub RunsInPart : List (List ℕ) → Outside → Outside → Status → Type 0
-RunsInPart texts before after result =
-    ReportedInPart before.files before.taken after.taken (first_moment before.misses)
+abbrev pub RunsInPart : Settings → List (List ℕ) → Outside → Outside → Status → Type 0
+RunsInPart settings texts before after result =
+    ReportedInPart before.files before.taken after.taken (first_moment settings before.misses)
     (spoken_from 1 texts) after.misses result
 
 -- the lines of these texts were run
-abbrev pub EndsBy : Status → List (List ℕ) → Outside → Outside → Type 0
-EndsBy status.Done texts before after = RunsWhole texts before after false
-EndsBy status.DoneRefused texts before after = RunsWhole texts before after true
-EndsBy status.ReadFault texts before after = RunsInPart texts before after status.ReadFault
-EndsBy status.WriteFault texts before after = RunsInPart texts before after status.WriteFault
-EndsBy status.Memory texts before after = RunsInPart texts before after status.Memory
-EndsBy status.Usage texts before after = ⊥
-EndsBy status.Missing texts before after = ⊥
-EndsBy status.TooLong texts before after = ⊥
-EndsBy status.NotText texts before after = ⊥
-EndsBy status.Rejected texts before after = ⊥
-EndsBy status.BadWeights texts before after = ⊥
+abbrev pub EndsBy : Status → Settings → List (List ℕ) → Outside → Outside → Type 0
+EndsBy status.Done settings texts before after = RunsWhole settings texts before after false
+EndsBy status.DoneRefused settings texts before after = RunsWhole settings texts before after true
+EndsBy status.ReadFault settings texts before after = RunsInPart settings texts before after status.ReadFault
+EndsBy status.WriteFault settings texts before after = RunsInPart settings texts before after status.WriteFault
+EndsBy status.Memory settings texts before after = RunsInPart settings texts before after status.Memory
+EndsBy status.Usage settings texts before after = ⊥
+EndsBy status.Missing settings texts before after = ⊥
+EndsBy status.TooLong settings texts before after = ⊥
+EndsBy status.NotText settings texts before after = ⊥
+EndsBy status.Rejected settings texts before after = ⊥
+EndsBy status.BadWeights settings texts before after = ⊥
 
-pub record RunsLines (texts : List (List ℕ)) (before after : Outside) (result : Status) : Type 0 where
-  pub ends : EndsBy result texts before after
-  pub read_fault : result ≡ status.ReadFault → Rose before.faults after.faults
-  pub write_fault : result ≡ status.WriteFault → Rose before.sink_faults after.sink_faults
+pub record RunsLines (settings : Settings) (texts : List (List ℕ)) (before after : Outside) (result : Status) : Type 0
+  where
+    pub ends : EndsBy result settings texts before after
+    pub read_fault : result ≡ status.ReadFault → Rose before.faults after.faults
+    pub write_fault : result ≡ status.WriteFault → Rose before.sink_faults after.sink_faults
 
 -- a script of these bytes was run
-pub record RunsBytes (bytes : List ℕ) (before after : Outside) (result : Status) : Type 0 where
-  pub done : result ≡ status.Done → ReportsRun bytes before after false
-  pub refused : result ≡ status.DoneRefused → ReportsRun bytes before after true
+pub record RunsBytes (settings : Settings) (bytes : List ℕ) (before after : Outside) (result : Status) : Type 0 where
+  pub done : result ≡ status.Done → ReportsRun settings bytes before after false
+  pub refused : result ≡ status.DoneRefused → ReportsRun settings bytes before after true
   pub short : result ≢ status.TooLong → length bytes ≤ SCRIPT_LIMIT
   pub read_fault : result ≡ status.ReadFault → Rose before.faults after.faults
   pub write_fault : result ≡ status.WriteFault → Rose before.sink_faults after.sink_faults
@@ -64,4 +66,4 @@ pub record RunsBytes (bytes : List ℕ) (before after : Outside) (result : Statu
   pub bad_weights : result ≡ status.BadWeights → ⊥
   pub nothing : (result ≡ status.TooLong) ⊎ (result ≡ status.NotText) → after.taken ≡ before.taken
   pub prefix : (result ≡ status.ReadFault) ⊎ (result ≡ status.WriteFault) ⊎ (result ≡ status.Memory) →
-      TookNothing before after ⊎ ReportsPrefix bytes before after result
+      TookNothing before after ⊎ ReportsPrefix settings bytes before after result

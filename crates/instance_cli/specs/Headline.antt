@@ -1,34 +1,35 @@
--- What the top call promises: what was written, and why the job ended. To be read aloud.
+-- What the run of a script promises: what was written, and why the job ended. To be read aloud.
 use Rattle.std.specs.Prelude.{ℕ, ◌≡◌, ◌<◌, ◌≤◌, ◌⊎◌, List, length, true, false, Option, Some, None}
 use Rattle.std.specs.Str.{IsUtf8}
 use Rattle.outside_model.specs.Causes.{Rose}
 use Rattle.outside_model.specs.declared.TheConstants.{SCRIPT_LIMIT}
 use Rattle.outside_model.specs.Files.{Files, Told}
 use Rattle.outside_model.specs.Outside.{Outside}
+use Rattle.session_model.specs.declared.settings.Settings.{Settings}
 use Rattle.instance_cli.specs.Report.{ReportsRun, ReportsPrefix}
 use Rattle.instance_cli.specs.Script.{script_of}
-use Rattle.instance_cli.specs.Words.{Mode, NoMode, RunMode}
 use Rattle.instance_cli.specs.declared.outcome.Status.{Status}
 use Rattle.instance_cli.specs.declared.outcome.Status.TheVariants as status
 
--- the script of this name was read: it is what the files have, where they are told, and this holds of its bytes
-abbrev pub OfScript : List ℕ → Option Files → (List ℕ → Type 0) → Type 0
-OfScript name files P = (bytes : List ℕ) × Told files (λ told. told name ≡ Some bytes) × P bytes
+-- the file of this name was read: it is what the files have, where they are told, and this holds of its bytes
+abbrev pub OfFile : List ℕ → Option Files → (List ℕ → Type 0) → Type 0
+OfFile name files P = (bytes : List ℕ) × Told files (λ told. told name ≡ Some bytes) × P bytes
 
--- the same of a script that may have been read in part alone, where the files are told
-abbrev pub OfToldScript : List ℕ → Option Files → (List ℕ → Type 0) → Type 0
-OfToldScript name files P = Told files (λ told. (bytes : List ℕ) × (told name ≡ Some bytes) × P bytes)
+-- the same of a file that may have been read in part alone, where the files are told
+abbrev pub OfToldFile : List ℕ → Option Files → (List ℕ → Type 0) → Type 0
+OfToldFile name files P = Told files (λ told. (bytes : List ℕ) × (told name ≡ Some bytes) × P bytes)
 
 -- where the sink is told, it took nothing
 abbrev pub TookNothing : Outside → Outside → Type 0
 TookNothing before after = Told before.taken (λ taken. after.taken ≡ Some taken)
 
--- the run of the script of this name, with the outside before and after it
-pub record Headline (name : List ℕ) (before after : Outside) (result : Status) : Type 0 where
+-- the run of the script of this name with these settings, with the outside before and after it
+pub record Headline (settings : Settings) (name : List ℕ) (before after : Outside) (result : Status) : Type 0 where
   -- with status 0 the whole script was run, what was taken is its report, and no line was refused
-  pub done : result ≡ status.Done → OfScript name before.files (λ bytes. ReportsRun bytes before after false)
+  pub done : result ≡ status.Done → OfFile name before.files (λ bytes. ReportsRun settings bytes before after false)
   -- with status 1 the same, and some line was refused
-  pub refused : result ≡ status.DoneRefused → OfScript name before.files (λ bytes. ReportsRun bytes before after true)
+  pub refused : result ≡ status.DoneRefused → OfFile name before.files
+      (λ bytes. ReportsRun settings bytes before after true)
   -- with status 3 the script isn't there, and the shelf missed it
   pub missing : result ≡ status.Missing → Told before.files (λ files. files name ≡ None)
       × Rose before.misses after.misses
@@ -36,10 +37,10 @@ pub record Headline (name : List ℕ) (before after : Outside) (result : Status)
   pub read_fault : result ≡ status.ReadFault → Rose before.faults after.faults
   pub write_fault : result ≡ status.WriteFault → Rose before.sink_faults after.sink_faults
   -- with status 7 the script is above 16 MiB, with status 8 it isn't, and is no text
-  pub too_long : result ≡ status.TooLong → OfToldScript name before.files (λ bytes. SCRIPT_LIMIT < length bytes)
+  pub too_long : result ≡ status.TooLong → OfToldFile name before.files (λ bytes. SCRIPT_LIMIT < length bytes)
   pub not_text : result ≡ status.NotText →
-      OfToldScript name before.files (λ bytes. (length bytes ≤ SCRIPT_LIMIT) × ¬ IsUtf8 (script_of bytes))
-  -- the words mean settings, nothing is verified, and no weights are read yet: 2, 9 and 10 don't come
+      OfToldFile name before.files (λ bytes. (length bytes ≤ SCRIPT_LIMIT) × ¬ IsUtf8 (script_of bytes))
+  -- the words mean a job, nothing is verified, and the weights were read before: 2, 9 and 10 don't come
   pub usage : result ≡ status.Usage → ⊥
   pub rejected : result ≡ status.Rejected → ⊥
   pub bad_weights : result ≡ status.BadWeights → ⊥
@@ -48,9 +49,4 @@ pub record Headline (name : List ℕ) (before after : Outside) (result : Status)
       → after.taken ≡ before.taken
   -- with 4, 5 and 6 nothing, or whole replies of a run of the script and then what `EndsWith` says of the next one
   pub prefix : (result ≡ status.ReadFault) ⊎ (result ≡ status.WriteFault) ⊎ (result ≡ status.Memory) →
-      TookNothing before after ⊎ OfScript name before.files (λ bytes. ReportsPrefix bytes before after result)
-
--- the whole promise: words that mean no settings are status 2, and nothing else happens
-abbrev pub TopPromise : Mode → Outside → Outside → Status → Type 0
-TopPromise NoMode before after result = (result ≡ status.Usage) × (after.taken ≡ before.taken)
-TopPromise (RunMode name) before after result = Headline name before after result
+      TookNothing before after ⊎ OfFile name before.files (λ bytes. ReportsPrefix settings bytes before after result)

@@ -1,10 +1,10 @@
 pub mod Bytes
-pub mod Defaults
 pub mod Headline
+pub mod Jobs
 pub mod Lines
 pub mod Moments
 pub mod Outsides
 pub mod Report
 pub mod Script
 pub mod Statuses
-pub mod Words
+pub mod Weights

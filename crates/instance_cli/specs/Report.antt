@@ -11,8 +11,8 @@ use Rattle.script_report.specs.declared.replies.Reply.{Reply}
 use Rattle.session_model.specs.Run.{Line, IsChain, spoken_lines, report_text, some_refusal}
 use Rattle.session_model.specs.State.{initial_state}
 use Rattle.session_model.specs.Step.{Step, asks_for, file_of}
+use Rattle.session_model.specs.declared.settings.Settings.{Settings}
 use Rattle.session_bound.specs.Bound.{AreBounded}
-use Rattle.instance_cli.specs.Defaults.{default_settings}
 use Rattle.instance_cli.specs.Moments.{Moment, state_at}
 use Rattle.instance_cli.specs.Script.{script_of}
 use Rattle.instance_cli.specs.declared.outcome.Status.{Status}
@@ -46,23 +46,23 @@ pub record IsScript (bytes : List ℕ) : Type 0 where
   pub short : length bytes ≤ SCRIPT_LIMIT
   pub utf8 : IsUtf8 (script_of bytes)
 
--- the first state, once the script was fetched
-pub record Starts (before : Outside) (first : Moment) : Type 0 where
-  pub state : first.state ≡ initial_state default_settings
+-- the first state of a session with these settings, once the script was fetched
+pub record Starts (settings : Settings) (before : Outside) (first : Moment) : Type 0 where
+  pub state : first.state ≡ initial_state settings
   pub misses : before.misses ≤ first.misses
 
 -- where the sink is told, it took this behind what it had
 abbrev pub Took : Outside → Outside → List ℕ → Type 0
 Took before after bytes = Told before.taken (λ taken. after.taken ≡ Some (taken ++ bytes))
 
--- the script of these bytes was run: all of its lines were served, what was taken is their report, and some reply is a
+-- the script of these bytes was run with these settings: all of its lines were served, what was taken is their report, and some reply is a
 -- refusal or none
-pub record ReportsRun (bytes : List ℕ) (before after : Outside) (refused : Bool) : Type 0 where
+pub record ReportsRun (settings : Settings) (bytes : List ℕ) (before after : Outside) (refused : Bool) : Type 0 where
   pub script : IsScript bytes
   pub replies : List Reply
   pub first : Moment
   pub last : Moment
-  pub starts : Starts before first
+  pub starts : Starts settings before first
   pub run : IsChain (ServesLine before.files) first (spoken_lines (script_of bytes)) replies last
   pub bound : AreBounded state_at (ServesLine before.files) [] first (spoken_lines (script_of bytes)) replies last run
   pub ends : last.misses ≤ after.misses
@@ -99,7 +99,8 @@ EndsWith status.BadWeights lines replies cut = ⊥
 
 -- the script of these bytes was cut short: its first lines were served and their replies taken whole, then perhaps the
 -- beginning of the next one; and the run goes on from there over the other lines
-pub record ReportsPrefix (bytes : List ℕ) (before after : Outside) (result : Status) : Type 0 where
+pub record ReportsPrefix (settings : Settings) (bytes : List ℕ) (before after : Outside) (result : Status)
+    : Type 0 where
   pub script : IsScript bytes
   pub done : List Line
   pub rest : List Line
@@ -109,7 +110,7 @@ pub record ReportsPrefix (bytes : List ℕ) (before after : Outside) (result : S
   pub last : Moment
   pub replies : List Reply
   pub others : List Reply
-  pub starts : Starts before first
+  pub starts : Starts settings before first
   pub run : IsChain (ServesLine before.files) first done replies middle
   pub bound : AreBounded state_at (ServesLine before.files) [] first done replies middle run
   pub ends : middle.misses ≤ after.misses

@@ -1,7 +1,9 @@
 -- What the program ends with, and what it says on standard error.
 use Rattle.std.specs.Prelude.{ℕ, List, codes, Option, Some, None}
 use Rattle.instance_cli.specs.declared.outcome.Status.{Status}
-use Rattle.instance_cli.specs.declared.outcome.Status.TheVariants.{Done, DoneRefused, Usage, Missing, ReadFault, WriteFault, Memory, TooLong, NotText, Rejected, BadWeights}
+use Rattle.instance_cli.specs.declared.outcome.Status.TheVariants.{Done, DoneRefused, Usage, Missing, ReadFault}
+use Rattle.instance_cli.specs.declared.outcome.Status.TheVariants.{WriteFault, Memory, TooLong, NotText, Rejected}
+use Rattle.instance_cli.specs.declared.outcome.Status.TheVariants.{BadWeights}
 
 -- the number of a status
 abbrev pub status_number : Status → ℕ

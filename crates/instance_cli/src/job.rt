@@ -1,116 +1,102 @@
-//! The whole job: words, script, lines.
-ghost use Rattle.std.specs.Prelude.{◌≡◌, ◌≤◌, ◌<◌, ◌+◌, ◌^◌, length, map, string_bytes, IfOk};
-ghost use Rattle.std.specs.Str.Lines.{lines as lines_of};
-ghost use Rattle.instance_cli.specs.Bytes.{RunsBytes, RunsLines};
-ghost use Rattle.instance_cli.specs.Headline.{Headline, TopPromise};
+//! The whole job: the words, the weights, and what the words ask for.
+ghost use Rattle.std.specs.Prelude.{◌≡◌, Some, map, string_bytes};
+ghost use Rattle.command_words.specs.Jobs.{AreInBounds, IsJob};
+ghost use Rattle.command_words.specs.Settings.{settings_of};
+ghost use Rattle.command_words.specs.Views.{meaning, mode_view, options_view};
+ghost use Rattle.plan_trees.specs.Statistics.{AreWeights};
+ghost use Rattle.session_model.specs.Session.{AreSettings};
+ghost use Rattle.instance_cli.specs.Jobs.{ModePromise, TopPromise, settings_with};
 ghost use Rattle.instance_cli.specs.Outsides.{outside_of};
-ghost use Rattle.instance_cli.specs.Script as texts;
-ghost use Rattle.instance_cli.specs.Words as meaning;
 
+use crate::demo::write_demo;
 use crate::outcome::Status;
-use crate::serving::serve_lines;
-use crate::words::{Mode, mode_of};
-use outside_io::{Fetched, Shelf, Sink};
-use outside_model::SCRIPT_LIMIT;
-use row_values::OutOfMemory;
+use crate::run::run_script;
+use crate::weights::weights_for;
+use command_words::{Job, Mode, Options, read_words};
+use outside_io::{Shelf, Sink};
+use plan_trees::Weights;
+use session_engine::Settings;
 use std::alloc::Global;
 
-/// The bytes without the byte order mark in front.
-fn script_of(bytes: &[u8]) -> &[u8]
-    ensures { result.now ≡ texts.script_of bytes.now }
+/// The settings that options mean, with these weights.
+fn settings(options: &Options, weights: Weights) -> Settings
+    requires options { AreInBounds (options_view options.now) }
+    requires weights { AreWeights weights }
+    ensures value { result ≡ settings_with (options_view options.now) weights }
+    ensures within { AreSettings result }
 {
-    match bytes {
-        [0xEF, 0xBB, 0xBF, text @ ..] => text,
-        _ => bytes,
+    Settings {
+        lambda: options.lambda,
+        keep: options.keep,
+        budget: options.budget,
+        recosts: options.recosts,
+        weights,
     }
 }
 
-/// The lines of a text: at most one more than it has bytes.
-fn split(alloc: Global, text: &str) -> Result<Vec<&str>, OutOfMemory>
-    ensures value { IfOk result (λ lines. map (λ line. line.now) lines.items ≡ lines_of text.now) }
-    ensures few { IfOk result (λ lines. length lines.items ≤ length text.now + 1) }
-{
-    text.lines().collect(alloc)
-}
-
-/// Runs the lines of a script.
-fn run_lines<F: Shelf, K: Sink>(
+/// What the words ask for is done, with these settings.
+fn do_mode<F: Shelf, K: Sink>(
     alloc: Global,
-    lines: &[&str],
+    mode: &Mode,
+    settings: Settings,
     shelf: &mut F,
     sink: &mut K,
 ) -> Status
-    requires { length lines.now < 2 ^ 50 }
-    ensures { RunsLines (map (λ line. line.now) lines.now)
+    requires { AreSettings settings }
+    ensures { ModePromise (mode_view mode.now) settings
         (outside_of (F.files shelf.old) (K.taken sink.old)
         (F.faults shelf.old) (F.misses shelf.old) (K.faults sink.old))
         (outside_of (F.files shelf.new) (K.taken sink.new)
         (F.faults shelf.new) (F.misses shelf.new) (K.faults sink.new))
         result }
 {
-    match serve_lines(alloc, lines, shelf, sink) {
+    match mode {
+        Mode::Run(script) => run_script(alloc, settings, script.as_str(), shelf, sink),
+        Mode::Verify(_, _) => Status::Usage,
+        Mode::Demo(runs) => write_demo(alloc, settings, *runs, shelf, sink),
+    }
+}
+
+/// The job is done, where it has its weights.
+fn do_job<F: Shelf, K: Sink>(alloc: Global, job: &Job, shelf: &mut F, sink: &mut K) -> Status
+    requires { IsJob (meaning job.now) }
+    ensures { TopPromise (Some (meaning job.now))
+        (outside_of (F.files shelf.old) (K.taken sink.old)
+        (F.faults shelf.old) (F.misses shelf.old) (K.faults sink.old))
+        (outside_of (F.files shelf.new) (K.taken sink.new)
+        (F.faults shelf.new) (F.misses shelf.new) (K.faults sink.new))
+        result }
+{
+    match weights_for(alloc, &job.options.weights, shelf) {
         Err(status) => status,
-        Ok(true) => Status::DoneRefused,
-        Ok(false) => Status::Done,
+        Ok(weights) => do_mode(
+            alloc,
+            &job.mode,
+            settings(&job.options, weights),
+            shelf,
+            sink,
+        ),
     }
 }
 
-/// Runs a script of these bytes.
-fn run_bytes<F: Shelf, K: Sink>(alloc: Global, bytes: &[u8], shelf: &mut F, sink: &mut K) -> Status
-    ensures { RunsBytes bytes.now
-        (outside_of (F.files shelf.old) (K.taken sink.old)
-        (F.faults shelf.old) (F.misses shelf.old) (K.faults sink.old))
-        (outside_of (F.files shelf.new) (K.taken sink.new)
-        (F.faults shelf.new) (F.misses shelf.new) (K.faults sink.new))
-        result }
-{
-    if bytes.len() > SCRIPT_LIMIT {
-        return Status::TooLong;
-    }
-    match str::from_utf8(script_of(bytes)) {
-        Err(_) => Status::NotText,
-        Ok(text) => match split(alloc, text) {
-            Err(_) => Status::Memory,
-            Ok(lines) => run_lines(alloc, lines.as_slice(), shelf, sink),
-        },
-    }
-}
-
-/// Runs the script of this name.
-fn run_script<F: Shelf, K: Sink>(alloc: Global, name: &str, shelf: &mut F, sink: &mut K) -> Status
-    ensures { Headline name.now
-        (outside_of (F.files shelf.old) (K.taken sink.old)
-        (F.faults shelf.old) (F.misses shelf.old) (K.faults sink.old))
-        (outside_of (F.files shelf.new) (K.taken sink.new)
-        (F.faults shelf.new) (F.misses shelf.new) (K.faults sink.new))
-        result }
-{
-    let mut bytes = Vec::new(alloc);
-    match shelf.fetch(alloc, name, SCRIPT_LIMIT, &mut bytes) {
-        Fetched::Missing => Status::Missing,
-        Fetched::Failed => Status::ReadFault,
-        Fetched::Memory => Status::Memory,
-        Fetched::Got => run_bytes(alloc, bytes.as_slice(), shelf, sink),
-    }
-}
-
-/// The program's job over these words: what was written is the report of a run of the script that they name, and the
-/// status tells why the job ended.
+/// The program's job over these words: what was written is what they ask for, the report of a run of a script or the
+/// demo's summary, and the status tells why the job ended.
 pub fn scr<F: Shelf, K: Sink>(
     alloc: Global,
     words: &[String],
     shelf: &mut F,
     sink: &mut K,
 ) -> Status
-    ensures { TopPromise (meaning.mode_of (map (λ word. string_bytes word) words.now))
+    ensures { TopPromise (settings_of (map string_bytes words.now))
         (outside_of (F.files shelf.old) (K.taken sink.old)
         (F.faults shelf.old) (F.misses shelf.old) (K.faults sink.old))
         (outside_of (F.files shelf.new) (K.taken sink.new)
         (F.faults shelf.new) (F.misses shelf.new) (K.faults sink.new))
         result }
 {
-    match mode_of(words) {
-        Mode::Nothing => Status::Usage,
-        Mode::Run(name) => run_script(alloc, name, shelf, sink),
+    match read_words(alloc, words) {
+        Err(_) => Status::Memory,
+        Ok(None) => Status::Usage,
+        Ok(Some(job)) => do_job(alloc, &job, shelf, sink),
     }
 }

@@ -1,14 +1,16 @@
-//! The top call: words, the script, its lines in order, and the status that the program ends with.
+//! The top call: the words, the weights, the job that the words ask for, and the status that the program ends with.
 //!
-//! `scr` is what `main` calls. Its contract is `Headline` of `specs/`: what was written is the report of a run of the
-//! script, and each status has its cause. It knows a shelf and a sink, and no file system.
+//! `scr` is what `main` calls. Its contract is `TopPromise` of `specs/Jobs`: what was written is the report of a run of
+//! the script (`Headline`), or the demo's summary, and each status has its cause. It knows a shelf and a sink, and no
+//! file system.
 #![tactic(auto)]
 
-mod defaults;
+mod demo;
 mod job;
 mod outcome;
+mod run;
 mod serving;
-mod words;
+mod weights;
 
 pub use job::scr;
 pub use outcome::Status;

@@ -12,18 +12,17 @@ ghost use Rattle.script_report.specs.Replies.{reply_text};
 ghost use Rattle.session_model.specs.Run.{spoken_from, is_refusal};
 ghost use Rattle.session_model.specs.State.{initial_state};
 ghost use Rattle.session_model.specs.Step.{asks_for, file_of};
-ghost use Rattle.instance_cli.specs.Defaults.{default_settings as defaults};
+ghost use Rattle.session_model.specs.Session.{AreSettings};
 ghost use Rattle.instance_cli.specs.Lines.{Answers, Reported, ReportedInPart};
 ghost use Rattle.instance_cli.specs.Moments.{Moment};
 ghost use Rattle.instance_cli.specs.Report.{IsMissed, Serves};
 
-use crate::defaults::default_settings;
 use crate::outcome::Status;
 use join_optimizer::Optimizer;
 use outside_io::{Fetched, Put, Shelf, Sink};
 use outside_model::FILE_LIMIT;
 use script_report::{Command, LineFault, Reply, read_line, reply_text};
-use session_engine::Engine;
+use session_engine::{Engine, Settings};
 use std::alloc::Global;
 
 /// What became of the file that a line asks for.
@@ -203,23 +202,25 @@ fn either(a: bool, b: bool) -> bool
 /// Serves the lines in order, from the first state, and tells whether one was refused.
 pub fn serve_lines<F: Shelf, K: Sink>(
     alloc: Global,
+    settings: Settings,
     lines: &[&str],
     shelf: &mut F,
     sink: &mut K,
 ) -> Result<bool, Status>
-    requires { length lines.now < 2 ^ 50 }
+    requires settings { AreSettings settings }
+    requires few { length lines.now < 2 ^ 50 }
     ensures files { F.files shelf.new ≡ F.files shelf.old }
     ensures ok { IfOk result (λ refused. (last : Moment) × (last.misses ≤ F.misses shelf.new)
         × Reported (F.files shelf.old) (K.taken sink.old) (K.taken sink.new)
-        (record { state = initial_state defaults; misses = F.misses shelf.old })
+        (record { state = initial_state settings; misses = F.misses shelf.old })
         (spoken_from 1 (map (λ line. line.now) lines.now)) last refused) }
     ensures err { IfErr result (λ status. ReportedInPart (F.files shelf.old) (K.taken sink.old) (K.taken sink.new)
-        (record { state = initial_state defaults; misses = F.misses shelf.old })
+        (record { state = initial_state settings; misses = F.misses shelf.old })
         (spoken_from 1 (map (λ line. line.now) lines.now)) (F.misses shelf.new) status) }
     ensures read_cause { result ≡ Err Status.ReadFault → Rose (F.faults shelf.old) (F.faults shelf.new) }
     ensures write_cause { result ≡ Err Status.WriteFault → Rose (K.faults sink.old) (K.faults sink.new) }
 {
-    let mut engine = Engine::new(alloc, default_settings(), Optimizer::new());
+    let mut engine = Engine::new(alloc, settings, Optimizer::new());
     let mut refused = false;
     for (i, line) in lines.iter().enumerate() {
         match serve_line(alloc, &mut engine, i as u64 + 1, line, shelf, sink) {

@@ -974,3 +974,145 @@ fn faults(rt: HostRuntime) -> Result<(), Fail> {
     );
     Ok(())
 }
+
+/// What the job over these words and files writes, and how it ends.
+fn job_of(alloc: Global, words: &[&str], files: &[(&str, &str)]) -> Result<(String, Status), Fail> {
+    let mut shelf = SureShelf::new(alloc);
+    for (name, text) in files {
+        shelf.put_file(name, text.as_bytes())?;
+    }
+    let mut owned = Vec::new(alloc);
+    for word in words {
+        owned.push(String::from_str(alloc, word)?)?;
+    }
+    let mut sink = SureSink::new(alloc);
+    let status = scr(alloc, owned.as_slice(), &mut shelf, &mut sink);
+    let written = str::from_utf8(sink.taken()).map_err(|_| Fail::from("no text"))?;
+    Ok((String::from_str(alloc, written)?, status))
+}
+
+#[test]
+fn words_and_weights(rt: HostRuntime) -> Result<(), Fail> {
+    let run = "load t t.csv\nprepare q SELECT v FROM t WHERE v < ?\nrun q 10\n";
+    let files = [
+        ("a.scr", run),
+        ("t.csv", "v\n1\n5\n12\n"),
+        (
+            "heavy",
+            "{\"row\":3,\"fetch\":2,\"probe\":1,\"hash\":2,\"sort\":1,\"out\":1}",
+        ),
+        (
+            "none",
+            "{\"row\":0,\"fetch\":2,\"probe\":1,\"hash\":2,\"sort\":1,\"out\":1}",
+        ),
+        ("cut", "{\"row\":1"),
+    ];
+    // The words, how the job ends, and a line of what it writes.
+    let cases: [(&[&str], Status, &str); 16] = [
+        (&["run", "a.scr"], Status::Done, "cost 3298534883328"),
+        (
+            &["--weights", "heavy", "run", "a.scr"],
+            Status::Done,
+            "cost 9895604649984",
+        ),
+        (
+            &["run", "--weights=heavy", "--", "a.scr"],
+            Status::Done,
+            "cost 9895604649984",
+        ),
+        (&["run", "a.scr", "--lambda", "1"], Status::Done, "at 2"),
+        (
+            &["run", "a.scr", "--weights", "none"],
+            Status::BadWeights,
+            "",
+        ),
+        (
+            &["run", "a.scr", "--weights", "cut"],
+            Status::BadWeights,
+            "",
+        ),
+        (&["run", "a.scr", "--weights", "far"], Status::Missing, ""),
+        (&["run", "far", "--weights", "cut"], Status::BadWeights, ""),
+        (&["run", "far", "--weights", "heavy"], Status::Missing, ""),
+        (&["run", "a.scr", "--lambda", "1/2"], Status::Usage, ""),
+        (
+            &["run", "a.scr", "--keep", "3", "--lambda", "2"],
+            Status::Usage,
+            "",
+        ),
+        (&["run", "a.scr", "--budget", "0"], Status::Usage, ""),
+        (&["run"], Status::Usage, ""),
+        (&["--help"], Status::Usage, ""),
+        (&["demo", "1001"], Status::Usage, ""),
+        (&[], Status::Usage, ""),
+    ];
+    for (words, want, line) in cases {
+        let (written, status) = job_of(rt.alloc(), words, &files)?;
+        let told = if line.is_empty() {
+            written.is_empty()
+        } else {
+            written.lines().any(|one| one == line)
+        };
+        assert!(rt; status == want && told, "{words:?}");
+    }
+    Ok(())
+}
+
+#[test]
+fn settings_of_the_words_count(rt: HostRuntime) -> Result<(), Fail> {
+    let n = counted_rows(rt.alloc(), "v", 1000, "", "")?;
+    let large = counted_rows(rt.alloc(), "v", 40000, "", "")?;
+    let budget = "load t n.csv\nindex t v\nprepare q SELECT v FROM t WHERE v < ?\n\
+                  run q 101\nrun q 1001\nevict q 9\n";
+    let overflow = "load t l.csv\nprepare q SELECT v FROM t WHERE v < ?\nrun q 2001\nrun q 1001\n";
+    let files = [
+        ("n.csv", n.as_str()),
+        ("l.csv", large.as_str()),
+        ("budget", budget),
+        ("overflow", overflow),
+    ];
+    // The words, and lines of the report in this order.
+    let cases: [(&[&str], Status, &[&str]); 2] = [
+        (
+            &["run", "budget", "--budget", "1"],
+            Status::DoneRefused,
+            &[
+                "by optimum tried 0",
+                "kept plan 1 new",
+                "by optimum tried 1",
+                "evicted plan 1 anchors 1",
+                "kept plan 2 new",
+                "6 refused 18 unknown plan 9",
+            ],
+        ),
+        (
+            &["run", "overflow", "--lambda", "9223372036854775807/1"],
+            Status::Done,
+            &[
+                "cost 43980465111040000",
+                "at 2000",
+                "kept plan 1 new",
+                "cost 43980465111040000",
+                "at 1000",
+                "by optimum tried 1",
+                "kept plan 1",
+            ],
+        ),
+    ];
+    for (words, want, lines) in cases {
+        let (written, status) = job_of(rt.alloc(), words, &files)?;
+        let mut left = written.lines();
+        let found = lines.iter().all(|line| left.any(|one| one == *line));
+        assert!(rt; status == want && found, "{words:?}");
+    }
+    Ok(())
+}
+
+#[test]
+fn one_demo(rt: HostRuntime) -> Result<(), Fail> {
+    let (written, status) = job_of(rt.alloc(), &["demo", "1"], &[])?;
+    let told =
+        "executions 1\noptimised 1\nby selectivity 0\nby cost 0\nplans 1\nanchors 1\nrows 10\n";
+    assert!(rt; status == Status::Done && written.as_str() == told);
+    Ok(())
+}

@@ -5,6 +5,9 @@
 
 mod reading;
 
+/// The most bytes of a file of weights, 64 KiB.
+pub const WEIGHTS_LIMIT: usize = 1 << 16;
+
 pub use reading::{WeightsFault, default_weights, read_weights};
 
 #[cfg(test)]

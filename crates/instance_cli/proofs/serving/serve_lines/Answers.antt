@@ -1,7 +1,6 @@
 use Rattle.std.proofs.Common.{◌≡◌, ◌∙◌, arith, refl, ap}
 use Rattle.session_model.specs.State.{State, initial_state}
 use Rattle.session_engine.specs.Engines.{EngineState}
-use Rattle.instance_cli.specs.Defaults.{default_settings}
 use Rattle.instance_cli.specs.Moments.{Moment}
 use Rattle.instance_cli.proofs.Runs.{lines_next, part_next}
 use Rattle.instance_cli.proofs.Served.{none_reported}
@@ -9,8 +8,8 @@ use Rattle.instance_cli.proofs.serving.serve_lines.Goals as goal
 
 pub loop-i-init : goal.loop-i-init
 loop-i-init g c =
-    let state : c.new-engine.result.state ≡ initial_state default_settings =
-    ap (λ (e : EngineState). e.state) c.new-engine.ensures ∙ ap initial_state c.default_settings.ensures in
+    let state : c.new-engine.result.state ≡ initial_state c.args.settings =
+    ap (λ (e : EngineState). e.state) c.new-engine.ensures in
     let steps : c.new-engine.result.steps ≡ 0 = ap (λ (e : EngineState). e.steps) c.new-engine.ensures in
     record {
       same = refl;

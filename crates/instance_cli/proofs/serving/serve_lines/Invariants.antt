@@ -1,7 +1,6 @@
 use Rattle.std.proofs.Common.{◌≡◌, ◌≤◌, take, map}
 use Rattle.session_model.specs.Run.{spoken_from}
 use Rattle.session_model.specs.State.{initial_state}
-use Rattle.instance_cli.specs.Defaults.{default_settings}
 use Rattle.instance_cli.specs.Lines.{Reported}
 use Rattle.instance_cli.specs.Moments.{Moment}
 use Rattle.instance_cli.proofs.serving.serve_lines.Given as goal
@@ -12,7 +11,7 @@ invariant-loop-i g l =
     let files = g.F.Shelf.files in
     let misses = g.F.Shelf.misses in
     let taken = g.K.Sink.taken in
-    let first : Moment = record { state = initial_state default_settings; misses = misses l.fn.shelf } in
+    let first : Moment = record { state = initial_state l.fn.settings; misses = misses l.fn.shelf } in
     let last : Moment = record { state = l.engine.state; misses = misses l.shelf } in
     record {
       same : files l.shelf ≡ files l.fn.shelf;

@@ -4,17 +4,18 @@ use Rattle.outside_io.specs.declared.Fetched.TheVariants.{Got}
 use Rattle.outside_model.specs.declared.TheConstants.{SCRIPT_LIMIT}
 use Rattle.outside_model.specs.Files.{Told}
 use Rattle.instance_cli.proofs.Headlines.{got, missing, failed, short}
-use Rattle.instance_cli.proofs.job.run_script.Goals as goal
+use Rattle.instance_cli.proofs.run.run_script.Goals as goal
 
 pub returns-in-Missing : goal.returns-in-Missing
 returns-in-Missing g c =
-    missing c.args.name.now _ _ c.in-Missing.ensures.fetches.gives (c.in-Missing.ensures.fetches.missing refl) refl
+    missing c.args.settings c.args.name.now _ _ c.in-Missing.ensures.fetches.gives
+    (c.in-Missing.ensures.fetches.missing refl) refl
 
 pub returns-in-Failed : goal.returns-in-Failed
-returns-in-Failed g c = failed c.args.name.now _ _ (c.in-Failed.ensures.fetches.failed refl) refl
+returns-in-Failed g c = failed c.args.settings c.args.name.now _ _ (c.in-Failed.ensures.fetches.failed refl) refl
 
 pub returns-in-Memory : goal.returns-in-Memory
-returns-in-Memory g c = short c.args.name.now _ _ refl
+returns-in-Memory g c = short c.args.settings c.args.name.now _ _ refl
 
 pub returns : goal.returns
 returns g c =
@@ -22,7 +23,7 @@ returns g c =
     let gives : Told files (λ fs. Gives fs c.args.name.now SCRIPT_LIMIT Got c.as_slice.result.now) =
     subst (λ (b : List ℕ). Told files (λ fs. Gives fs c.args.name.now SCRIPT_LIMIT Got b))
     (sym c.as_slice.ensures.value) c.in-Got.ensures.fetches.gives in
-    got c.args.name.now c.as_slice.result.now _ _ _ _ gives
+    got c.args.settings c.requires c.args.name.now c.as_slice.result.now _ _ _ _ gives
     (record {
       files = c.fetch.ensures.files;
       taken = refl;
