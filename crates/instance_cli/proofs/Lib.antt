@@ -1,4 +1,5 @@
 pub mod Bounded
+pub mod Complete
 pub mod Headlines
 pub mod Jobs
 pub mod Runs

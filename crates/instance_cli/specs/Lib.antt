@@ -1,6 +1,7 @@
 pub mod Bytes
 pub mod Headline
 pub mod Jobs
+pub mod Laws
 pub mod Lines
 pub mod Moments
 pub mod Outsides

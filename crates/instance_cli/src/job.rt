@@ -19,7 +19,7 @@ use session_engine::Settings;
 use std::alloc::Global;
 
 /// The settings that options mean, with these weights.
-fn settings(options: &Options, weights: Weights) -> Settings
+pub(crate) fn settings(options: &Options, weights: Weights) -> Settings
     requires options { AreInBounds (options_view options.now) }
     requires weights { AreWeights weights }
     ensures value { result ≡ settings_with (options_view options.now) weights }

@@ -7,6 +7,7 @@
 
 mod demo;
 mod job;
+pub mod laws;
 mod outcome;
 mod run;
 mod serving;

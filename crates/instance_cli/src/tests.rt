@@ -2,10 +2,16 @@
 ghost use Rattle.std.specs.Prelude.{◌≤◌};
 
 use super::*;
+use crate::job::settings;
+use command_words::read_words;
+use demo_run::run_demo;
+use join_optimizer::Optimizer;
 use outside_io::{MemShelf, MemSink, SureShelf, SureSink};
 use row_values::OutOfMemory;
+use session_engine::Engine;
 use std::alloc::Global;
 use std::test::Fail;
+use weights_file::default_weights;
 
 /// The words `run` and this name.
 fn run_words(alloc: Global, name: &str) -> Result<Vec<String>, OutOfMemory> {
@@ -1114,5 +1120,86 @@ fn one_demo(rt: HostRuntime) -> Result<(), Fail> {
     let told =
         "executions 1\noptimised 1\nby selectivity 0\nby cost 0\nplans 1\nanchors 1\nrows 10\n";
     assert!(rt; status == Status::Done && written.as_str() == told);
+    Ok(())
+}
+
+/// Whether sixteen cursors over sixteen versions of one table each keep their rows, whatever is loaded, opened and
+/// fetched between, and a seventeenth is refused. Version i has the rows 1 to i.
+fn cursors_keep_their_rows(alloc: Global) -> Result<bool, Fail> {
+    let mut shelf = SureShelf::new(alloc);
+    let mut script = String::from_str(alloc, "load t f1.csv\nprepare q SELECT v FROM t\n")?;
+    let mut report = String::from_str(
+        alloc,
+        "1 loaded t rows 1 columns 1\n2 prepared q tables 1 predicates 0 parameters 0\n",
+    )?;
+    for i in 1..17u64 {
+        let file = counted_rows(alloc, "v", i, "", "")?;
+        let name = format!(in alloc; "f{i}.csv")?;
+        shelf.put_file(name.as_str(), file.as_bytes())?;
+        write!(script, "load t f{i}.csv\ncursor c{i} q\n")?;
+        let cost = i * 1099511627776;
+        write!(
+            report,
+            "{} loaded t rows {i} columns 1\n\
+             {} opened c{i} q execution {i}\n\
+             plan rows(seq(t))\n\
+             cost {cost}\n\
+             at\n\
+             by optimum tried 0\n\
+             kept plan {i} new\n\
+             cert {{\"kind\":\"optimum\",\"least\":\"{cost}\",\
+             \"table\":[{{\"any\":\"{cost}\",\"set\":1,\"sorted\":null}}]}}\n\
+             end\n",
+            2 * i + 1,
+            2 * i + 2
+        )?;
+    }
+    script.push_str("cursor c17 q\n")?;
+    report.push_str("35 refused 20 store limit cursors\n")?;
+    for i in 1..17u64 {
+        write!(script, "fetch c{i} 1\n")?;
+        write!(
+            report,
+            "{} fetched c{i}\nrow 1\nend 1 left {}\n",
+            35 + i,
+            i - 1
+        )?;
+    }
+    for i in 1..17u64 {
+        write!(script, "fetch c{i} 1000000\n")?;
+        write!(report, "{} fetched c{i}\n", 51 + i)?;
+        for row in 2..i + 1 {
+            write!(report, "row {row}\n")?;
+        }
+        write!(report, "end {} left 0\n", i - 1)?;
+    }
+    shelf.put_file("a.scr", script.as_bytes())?;
+    let mut sink = SureSink::new(alloc);
+    let words = run_words(alloc, "a.scr")?;
+    let status = scr(alloc, words.as_slice(), &mut shelf, &mut sink);
+    Ok(status == Status::DoneRefused && sink.taken() == report.as_bytes())
+}
+
+#[test]
+fn sixteen_cursors(rt: HostRuntime) -> Result<(), Fail> {
+    assert!(rt; cursors_keep_their_rows(rt.alloc())?);
+    Ok(())
+}
+
+/// Whether the planner was asked as often in a demo of so many runs as executions are told that were optimised.
+fn asks_for_optima_alone(alloc: Global, runs: u16) -> Result<bool, Fail> {
+    let Some(job) = read_words(alloc, run_words(alloc, "a.scr")?.as_slice())? else {
+        return Ok(false);
+    };
+    let settings = settings(&job.options, default_weights());
+    let mut engine = Engine::new(alloc, settings, Optimizer::new());
+    let text = run_demo(alloc, &mut engine, runs)?;
+    let optimised = format!(in alloc; "optimised {}", engine.optimised())?;
+    Ok(text.lines().any(|line| line == optimised.as_str()))
+}
+
+#[test]
+fn demos_ask_for_optima_alone(rt: HostRuntime) -> Result<(), Fail> {
+    assert!(rt; asks_for_optima_alone(rt.alloc(), 50)?);
     Ok(())
 }
