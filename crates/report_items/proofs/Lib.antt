@@ -1,0 +1,4 @@
+mod FirstLines
+mod Fronts
+mod ToldLines
+pub mod WrittenHeads
