@@ -1,0 +1,11 @@
+pub mod Claims
+pub mod Findings
+pub mod Judging
+pub mod Kept
+pub mod Laws
+pub mod Sound
+pub mod Soundness
+pub mod Truth
+pub mod Verification
+pub mod Verifications
+pub mod Walk
