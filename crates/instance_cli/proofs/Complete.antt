@@ -41,8 +41,8 @@ ran settings script files before after status.Missing told there fails h =
     let some : Some there.0 ≡ None = sym there.1 ∙ none in
     absurd cc
 ran settings script files before after status.TooLong told there fails h =
-    let long = told_of before.files files (λ fs. (bytes : List ℕ) × (fs script ≡ Some bytes) × (SCRIPT_LIMIT < length bytes))
-    told (h.too_long refl) in
+    let long = told_of before.files files (λ fs. (bytes : List ℕ) × (fs script ≡ Some bytes)
+    × (SCRIPT_LIMIT < length bytes)) told (h.too_long refl) in
     let same = same_file (files script) there.0 long.0 there.1 long.1 in
     let short = subst (λ (bytes : List ℕ). length bytes ≤ SCRIPT_LIMIT) same there.2.short in
     let more = long.2 in
@@ -94,8 +94,8 @@ weighed (Some name) files before after status.Missing told there fails h =
     let some : Some there.0 ≡ None = sym there.2 ∙ none in
     absurd cc
 weighed (Some name) files before after status.TooLong told there fails h =
-    let long = told_of before.files files (λ fs. (bytes : List ℕ) × (fs name ≡ Some bytes) × (WEIGHTS_LIMIT < length bytes))
-    told (h.0.too_long refl) in
+    let long = told_of before.files files (λ fs. (bytes : List ℕ) × (fs name ≡ Some bytes)
+    × (WEIGHTS_LIMIT < length bytes)) told (h.0.too_long refl) in
     let same = same_file (files name) there.0 long.0 there.2 long.1 in
     let short = subst (λ (bytes : List ℕ). length bytes ≤ WEIGHTS_LIMIT) same there.3 in
     let more = long.2 in

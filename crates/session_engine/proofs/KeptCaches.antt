@@ -5,8 +5,7 @@ use Rattle.std.proofs.Common.{Option, Some, None, ap, refl, sym, subst, arith}
 use Rattle.std.proofs.Common.{slice_get, slice_index_or, cond}
 use Rattle.std.specs.List.{filter}
 use Rattle.std.specs.Option.{option_map}
-use Rattle.row_values.specs.Names.{canonical_name}
-use Rattle.row_values.specs.Refusals.{unknown_plan, unknown_statement}
+use Rattle.row_values.specs.Refusals.{unknown_plan}
 use Rattle.row_values.specs.Statements.{Statement}
 use Rattle.row_values.specs.declared.refusals.Refusal.{Refusal}
 use Rattle.plan_trees.specs.Statistics.{Statistics}
@@ -170,10 +169,6 @@ no_evict : (old : State) (name : List ℕ) (number plan : ℕ) → number_of old
     → EvictStep old name plan (reply.Refused (unknown_plan plan)) old
 no_evict old name number plan is none = rw (is, none) (record { says = refl; unchanged = refl })
 
-pub unknown_evict : (old : State) (name : List ℕ) (plan : ℕ) → number_of old.catalog.statements name ≡ None
-    → EvictStep old name plan (reply.Refused (unknown_statement (canonical_name name))) old
-unknown_evict old name plan none = rw none (record { says = refl; unchanged = refl })
-
 pub record IsEvicted (catalog : Catalog) (caches : List Contents) (cursors : List CursorState) (executions : ℕ)
     (settings : Settings)
     (name : List ℕ) (number plan anchors : ℕ) (cache : Contents) : Type 0 where
@@ -245,25 +240,12 @@ no_evict_kept catalog caches cursors executions settings name number plan d h is
     (ap (λ (c : CacheState). top_numbered c.plans plan) (state_there caches number d less)
     ∙ no_top (slice_index_or caches number d).plans plan none)
 
-pub costed_at : (catalog : Catalog) (caches : List Contents) (cursors : List CursorState) (executions : ℕ)
-    (settings : Settings) (number : ℕ)
-    (cache d : Contents) → IsSessionKept catalog caches cursors executions settings
-    → cache.plans ≡ (slice_index_or caches number d).plans → AreCostedAt catalog number cache
-costed_at catalog caches cursors executions settings number cache d h same = λ prepared found.
-    subst (λ (ps : List Kept). All (IsCosted prepared.statement
-    (stats_now catalog.tables catalog.weights prepared.statement)) ps) (sym same)
-    (costed_there (AreCosted catalog) catalog.statements caches number d prepared found h.costed)
-
 -- Shows.
 
 shows : (old : State) (name : List ℕ) (number : ℕ) (answer : Reply)
     → number_of old.catalog.statements name ≡ Some number → Shows old name number answer old
     → ShowStep old name answer old
 shows old name number answer is s = rw is s
-
-pub unknown_show : (old : State) (name : List ℕ) → number_of old.catalog.statements name ≡ None
-    → ShowStep old name (reply.Refused (unknown_statement (canonical_name name))) old
-unknown_show old name none = rw none (record { says = refl; unchanged = refl })
 
 pub show_kept : (catalog : Catalog) (caches : List Contents) (cursors : List CursorState) (executions : ℕ)
     (settings : Settings) (name : List ℕ)

@@ -28,7 +28,7 @@ use Rattle.session_engine.proofs.KeptCaches.{AreCostedAt, IsSameSession, cache_l
 use Rattle.session_engine.proofs.KeptCaches.{serving_there}
 use Rattle.session_engine.proofs.KeptSessions.{each_set_there, state_there, states_set, with_states}
 use Rattle.session_engine.proofs.Ready.{its_query}
-use Rattle.session_engine.proofs.Runs.{executed_run, refused_run, too_large}
+use Rattle.session_engine.proofs.Runs.{executed_run, too_large}
 
 pub on_err : {T E : Type 0} (r : Result T E) (P : Type 0) → P → OnErr r P
 on_err (Ok x) P p = tt
@@ -154,16 +154,6 @@ run_kept catalog caches cursors executions settings name args told q rows execut
     }
 
 -- The same as outcomes, for whatever answer the rows are made into.
-
-pub refused_kept : {A : Type 0} (lines : Statement → A → List (List ℕ)) (catalog : Catalog) (caches : List Contents)
-    (cursors : List CursorState) (executions : ℕ) (settings : Settings) (name : List ℕ) (args : List Value)
-    (why : Refusal) → IsSessionKept catalog caches cursors executions settings
-    → instance_of catalog name args ≡ Err why
-    → RunsKept lines catalog caches caches executions settings name args (Err why) cursors
-refused_kept lines catalog caches cursors executions settings name args why h e = record {
-  runs = refused_run (session_of catalog caches cursors executions settings) name args why (reply.Refused why) e refl;
-  kept = h;
-}
 
 -- the cache that was read, put back with the same plans and anchors
 pub record IsPutBack (catalog : Catalog) (caches : List Contents) (name : List ℕ) (args : List Value)

@@ -21,7 +21,7 @@ use Rattle.cache_model.proofs.Lists.{all_from, each_from, each_to, found_is}
 use Rattle.cache_model.proofs.Sizes.{vectors_fit}
 use Rattle.anchor_cache.specs.Anchors.{held}
 use Rattle.anchor_cache.specs.Contents.{Contents, cached, has_number, state_of}
-use Rattle.anchor_cache.specs.Instances.{HasCostAt, IsInstanceFor, cost_at}
+use Rattle.anchor_cache.specs.Instances.{IsInstanceFor, cost_at}
 use Rattle.anchor_cache.specs.declared.anchors.Anchor.{Anchor}
 use Rattle.anchor_cache.specs.declared.kept_plans.Kept.{Kept}
 use Rattle.std.specs.declared.alloc.Global.{Global}
@@ -52,10 +52,6 @@ instance_served q s executions budget cache at query stats h sound = record {
       (h.faithful.anchors k d less).vector;
 }
 
-pub costs_served : (q : Statement) (s : Statistics) (executions budget : ℕ) (cache : Contents) (at : List ℕ)
-    → IsServing q s executions budget cache → IsSoundVector q s at → All (HasCostAt at) cache.plans
-costs_served q s executions budget cache at h sound = λ k d less. (h.costed k d less).fits at sound
-
 pub costs_are : (q : Statement) (s : Statistics) (executions budget : ℕ) (cache : Contents) (at : List ℕ)
     → IsServing q s executions budget cache → IsSoundVector q s at → All (CostsAt (top_cost q s at) at) cache.plans
 costs_are q s executions budget cache at h sound = λ k d less. (h.costed k d less).costs at sound
@@ -79,11 +75,6 @@ no_less_served q s executions budget cache at least h sound is = λ k d less.
     let kept : Kept = slice_index_or cache.plans k d in
     subst (λ n. least ≤ n) (sym ((h.costed k d less).costs at sound))
     (is.below_all (top_tree kept.costed.plan.value) (valid k d less))
-
-pub later_served : (q : Statement) (s : Statistics) (executions budget : ℕ) (cache : Contents)
-    → IsServing q s executions budget cache → All (λ anchor. anchor.execution < executions + 1) cache.anchors
-later_served q s executions budget cache h = λ k d less.
-    let e = (h.faithful.anchors k d less).execution in omega (arith, e)
 
 -- Reuses.
 

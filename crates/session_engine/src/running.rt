@@ -36,7 +36,8 @@ pub fn run<P: Planner, A: Answer>(
         settings }
     ensures ok { IfOk result (λ outcome. (cursors : List CursorState)
         → IsSessionKept store.now.catalog caches.old cursors executions settings
-        → RunsKept A.lines store.now.catalog caches.old caches.new executions settings name.now args.now outcome cursors) }
+        → RunsKept A.lines store.now.catalog caches.old caches.new executions settings name.now args.now outcome
+        cursors) }
     ensures err { OnErr result ((cursors : List CursorState)
         → IsSessionKept store.now.catalog caches.old cursors executions settings
         → IsUnchanged store.now.catalog caches.old caches.new executions settings cursors) }
