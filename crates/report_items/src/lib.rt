@@ -4,6 +4,9 @@
 //! takes the texts as they stand, and knows neither plans nor certificates.
 #![tactic(auto)]
 
+/// The most bytes of a report that is read: 256 MiB.
+pub const REPORT_LIMIT: usize = 268435456;
+
 mod blocks;
 mod heads;
 mod items;

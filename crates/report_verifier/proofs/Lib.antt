@@ -5,6 +5,7 @@ mod KeptWalks
 pub mod OneCertificate
 pub mod OneOutcome
 mod Outcomes
+pub mod Relations
 pub mod SoundWalks
 pub mod TrueLedgers
 pub mod Walking

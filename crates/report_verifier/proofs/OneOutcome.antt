@@ -243,19 +243,19 @@ step_once old line (Says command) file x y sound h k = command_once old line com
 -- Verifications.
 
 pub verified_once : (files : Files) (old : Walk) (lines : List Line) (one other : Verification) → IsSoundWalk old
-    → Verifies files old lines one → Verifies files old lines other → one ≡ other
+    → Verifies (StepOver files) old lines one → Verifies (StepOver files) old lines other → one ≡ other
 verified_once files old [] one other sound h k = h ∙ sym k
 verified_once files old (line ∷ lines) one other sound (x, step, later) (y, again, more) =
     let same = step_once old line.number (reading_of line.text) (file_of files (reading_of line.text)) x y sound step
     again in
     by_outcome x step later (subst (λ (o : Result Walk Why). GoesOn line.number o
-    (λ next. Verifies files next lines other) other) (sym same) more)
+    (λ next. Verifies (StepOver files) next lines other) other) (sym same) more)
     (λ next good. verified_once files next lines one other good)
   where
     by_outcome : (outcome : Result Walk Why) → StepOver files old line outcome
-        → GoesOn line.number outcome (λ next. Verifies files next lines one) one
-        → GoesOn line.number outcome (λ next. Verifies files next lines other) other
-        → ((next : Walk) → IsSoundWalk next → Verifies files next lines one → Verifies files next lines other
+        → GoesOn line.number outcome (λ next. Verifies (StepOver files) next lines one) one
+        → GoesOn line.number outcome (λ next. Verifies (StepOver files) next lines other) other
+        → ((next : Walk) → IsSoundWalk next → Verifies (StepOver files) next lines one → Verifies (StepOver files) next lines other
         → one ≡ other)
         → one ≡ other
     by_outcome (Ok next) step later more both =

@@ -47,7 +47,7 @@ use Rattle.report_verifier.specs.Claims.{IsBlockJudged}
 use Rattle.report_verifier.specs.Sound.{IsSoundWalk}
 use Rattle.report_verifier.specs.Soundness.{AreMatched, IsMatched, IsMatchedCommand, IsMatchedInstance, IsMatchedLine}
 use Rattle.report_verifier.specs.Truth.{IsTrueIn}
-use Rattle.report_verifier.specs.Verification.{GoesOn, StepOver, Verifies, ended}
+use Rattle.report_verifier.specs.Verification.{GoesOn, StepOfLine, Taking, Verifies, ended}
 use Rattle.report_verifier.specs.Walk.{CommandStep, CursorStep, ExecutionStep, Matches, Step, Walk, after, claims_of}
 use Rattle.report_verifier.specs.Walk.{cursors_after, fetched, first_walk, indexed, later_items, loaded, next_item}
 use Rattle.report_verifier.specs.Walk.{prepared}
@@ -402,19 +402,23 @@ none_left : (walk : Walk) (items : List ReportItem) (executions too_large : ℕ)
 none_left walk [] executions too_large e = refl
 none_left walk (item ∷ items) executions too_large e = absurd cc
 
-pub all_matched : (files : Files) (old : Walk) (lines : List Line) (executions too_large : ℕ) → IsSoundWalk old
-    → Verifies files old lines (Verified executions too_large) → AreMatched files old lines
-all_matched files old [] executions too_large sound e = none_left old old.items executions too_large e
-all_matched files old (line ∷ lines) executions too_large sound (outcome, step, later) =
-    by_outcome outcome step later (λ next good. all_matched files next lines executions too_large good)
-  where
-    by_outcome : (outcome : Result Walk Why) → StepOver files old line outcome
-        → GoesOn line.number outcome (λ next. Verifies files next lines (Verified executions too_large))
-        (Verified executions too_large)
-        → ((next : Walk) → IsSoundWalk next → Verifies files next lines (Verified executions too_large)
-        → AreMatched files next lines)
-        → AreMatched files old (line ∷ lines)
-    by_outcome (Ok next) step later more =
-        let good = step_good old line.number line.text (file_of files (reading_of line.text)) next sound step in
-        (good.0, (next, step, more next good.1 later))
-    by_outcome (Err why) step later more = absurd (let e : Verified executions too_large ≡ Rejected _ = later in cc)
+module _ (Takes : Taking)
+    (is_step : (old : Walk) (line : Line) (outcome : Result Walk Why) → Takes old line outcome
+    → StepOfLine old line outcome) where
+  pub all_matched : (old : Walk) (lines : List Line) (executions too_large : ℕ) → IsSoundWalk old
+      → Verifies Takes old lines (Verified executions too_large) → AreMatched Takes old lines
+  all_matched old [] executions too_large sound e = none_left old old.items executions too_large e
+  all_matched old (line ∷ lines) executions too_large sound (outcome, step, later) =
+      by_outcome outcome step later (λ next good. all_matched next lines executions too_large good)
+    where
+      by_outcome : (outcome : Result Walk Why) → Takes old line outcome
+          → GoesOn line.number outcome (λ next. Verifies Takes next lines (Verified executions too_large))
+          (Verified executions too_large)
+          → ((next : Walk) → IsSoundWalk next → Verifies Takes next lines (Verified executions too_large)
+          → AreMatched Takes next lines)
+          → AreMatched Takes old (line ∷ lines)
+      by_outcome (Ok next) step later more =
+          let taken = is_step old line (Ok next) step in
+          let good = step_good old line.number line.text taken.0 next sound taken.1 in
+          (good.0, (next, step, more next good.1 later))
+      by_outcome (Err why) step later more = absurd (let e : Verified executions too_large ≡ Rejected _ = later in cc)

@@ -1,6 +1,5 @@
 -- What a verified report is worth, for a reader who trusts nobody.
 use Rattle.std.specs.Prelude.{ℕ, ◌≡◌, ◌⊎◌, ◌+◌, List, [], ◌∷◌, Some, Ok, MatchOption, MatchResult}
-use Rattle.outside_model.specs.Files.{Files}
 use Rattle.row_values.specs.Statements.{Statement}
 use Rattle.row_values.specs.declared.values.Value.{Value}
 use Rattle.plan_trees.specs.Spelling.{IsPlanText}
@@ -16,7 +15,7 @@ use Rattle.catalog_model.specs.Held.{holding_refusal}
 use Rattle.catalog_model.specs.Instances.{instance_of}
 use Rattle.session_model.specs.Run.{Line}
 use Rattle.report_verifier.specs.Claims.{IsCertText, IsCostText}
-use Rattle.report_verifier.specs.Verification.{StepOver}
+use Rattle.report_verifier.specs.Verification.{Taking}
 use Rattle.report_verifier.specs.Walk.{Walk, claims_of, next_item}
 
 -- the next item is a block for this line, statement and execution; its plan is valid, its cost is the plan's, and that
@@ -60,9 +59,9 @@ IsMatchedLine old line Silent = Unit {0}
 IsMatchedLine old line Bad = Unit {0}
 IsMatchedLine old line (Says command) = IsMatchedCommand old line command
 
--- from here each line is matched, in order, and no item is left over
-abbrev pub AreMatched : Files → Walk → List Line → Type 0
-AreMatched files old [] = old.items ≡ []
-AreMatched files old (line ∷ lines) =
+-- from here each line is matched, in order, and no item is left over; each line is taken by this relation
+abbrev pub AreMatched : Taking → Walk → List Line → Type 0
+AreMatched Takes old [] = old.items ≡ []
+AreMatched Takes old (line ∷ lines) =
     IsMatchedLine old line.number (reading_of line.text)
-    × ((next : Walk) × StepOver files old line (Ok next) × AreMatched files next lines)
+    × ((next : Walk) × Takes old line (Ok next) × AreMatched Takes next lines)
