@@ -51,13 +51,13 @@ letter_k = record { digit = refl; return = refl; plan = refl; cost = refl }
 letter_r : IsQuietByte 114
 letter_r = record { digit = refl; return = refl; plan = refl; cost = refl }
 
-numbers_one_line : (numbers : List ℕ) → is_one_line (numbers_text numbers) ≡ true
+pub numbers_one_line : (numbers : List ℕ) → is_one_line (numbers_text numbers) ≡ true
 numbers_one_line [] = refl
 numbers_one_line (n ∷ numbers) =
     one_line_both (codes " " ++ decimal n) (numbers_text numbers)
     (one_line_both (codes " ") (decimal n) refl (decimal_one_line n)) (numbers_one_line numbers)
 
-number_behind : (n : ℕ) {b : List ℕ} → IsEnded b → IsEnded (decimal n ++ b)
+pub number_behind : (n : ℕ) {b : List ℕ} → IsEnded b → IsEnded (decimal n ++ b)
 number_behind n e = ended_behind (decimal n) (decimal_one_line n) e
 
 at_quiet : (at : List ℕ) → IsQuiet (at_line at)
@@ -96,7 +96,7 @@ row_quiet row r =
     (quiet_text 114 _ letter_r refl
     (ended_behind (codes "row " ++ r.text) (one_line_both (codes "row ") r.text refl r.one) line_end))
 
-rows_quiet : (rows : List (List ℕ)) → AreRows rows → IsQuiet (lines_text rows)
+pub rows_quiet : (rows : List (List ℕ)) → AreRows rows → IsQuiet (lines_text rows)
 rows_quiet [] h = nothing_quiet
 rows_quiet (row ∷ rows) h =
     quiet_both (row ++ codes "\n") (lines_text rows) (row_quiet row h.0) (rows_quiet rows h.1)
@@ -104,7 +104,7 @@ rows_quiet (row ∷ rows) h =
 end_quiet : (n : ℕ) → IsQuiet (codes "end " ++ (decimal n ++ codes "\n"))
 end_quiet n = quiet_text 101 _ letter_e refl (ended_behind (codes "end ") refl (number_behind n line_end))
 
-last_quiet : IsQuiet (codes "end\n")
+pub last_quiet : IsQuiet (codes "end\n")
 last_quiet = quiet_text 101 _ letter_e refl (record { line = codes "end"; ends = refl; one = refl })
 
 -- Lines that tell something.
