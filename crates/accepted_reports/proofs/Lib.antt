@@ -1,0 +1,12 @@
+pub mod Blocks
+pub mod Certificates
+pub mod DatedLedgers
+pub mod Executions
+pub mod Forgetting
+pub mod Instances
+pub mod OtherLines
+pub mod OtherRefusals
+pub mod Runs
+pub mod ScriptLines
+pub mod Walked
+pub mod WholeRuns
