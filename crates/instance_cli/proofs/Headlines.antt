@@ -1,6 +1,6 @@
 -- The headline, from what the fetch of the script told and what running its bytes left.
 use Rattle.std.proofs.Common.{ℕ, ◌≡◌, ◌≢◌, ◌≤◌, ◌<◌, ◌+◌, ◌∙◌, List, ◌++◌, length, Option, Some, None, sym, ap, subst}
-use Rattle.std.proofs.Common.{arith, ◌⊎◌, inl, inr, Bool, true, false}
+use Rattle.std.proofs.Common.{arith, ◌⊎◌, inl, inr, Bool, true, false, take}
 use Rattle.std.specs.Str.{IsUtf8}
 use Rattle.std.proofs.lemmas.List.{take_all, length-take}
 use Rattle.outside_io.specs.Calls.{Gives}
@@ -14,9 +14,10 @@ use Rattle.session_model.specs.Session.{AreSettings}
 use Rattle.session_model.specs.declared.settings.Settings.{Settings}
 use Rattle.instance_cli.proofs.Bounded.{bounded}
 use Rattle.instance_cli.specs.Bytes.{RunsBytes}
-use Rattle.instance_cli.specs.Headline.{Headline, OfToldFile, TookNothing}
+use Rattle.instance_cli.specs.Headline.{Headline}
+use Rattle.instance_cli.specs.Outsides.{Took, TookFirst, TookNothing}
 use Rattle.instance_cli.specs.Report.{ServesLine, Starts, ReportsRun, ReportsPrefix}
-use Rattle.instance_cli.specs.Script.{script_of}
+use Rattle.instance_cli.specs.Texts.{OfToldFile, unmarked}
 use Rattle.instance_cli.specs.declared.outcome.Status.{Status}
 use Rattle.instance_cli.specs.declared.outcome.Status.TheVariants as status
 use Rattle.instance_cli.proofs.Scripts.{same_taken}
@@ -68,9 +69,9 @@ run_before : (settings : Settings) → AreSettings settings → (bytes : List �
     (refused : Bool) → Fetched before middle → ReportsRun settings bytes middle after refused
     → ReportsRun settings bytes before after refused
 run_before settings are bytes before middle after refused f h =
-    let run : IsChain (ServesLine before.files) h.first (spoken_lines (script_of bytes)) h.replies h.last =
+    let run : IsChain (ServesLine before.files) h.first (spoken_lines (unmarked bytes)) h.replies h.last =
     subst (λ (files : Option Files). IsChain (ServesLine files) h.first
-    (spoken_lines (script_of bytes)) h.replies h.last) f.files h.run in
+    (spoken_lines (unmarked bytes)) h.replies h.last) f.files h.run in
     record {
       script = h.script;
       replies = h.replies;
@@ -78,13 +79,14 @@ run_before settings are bytes before middle after refused f h =
       last = h.last;
       starts = starts_before settings before middle f h.first h.starts;
       run = run;
-      bound = bounded settings are before.files h.first (spoken_lines (script_of bytes)) h.replies h.last run
+      bound = bounded settings are before.files h.first (spoken_lines (unmarked bytes)) h.replies h.last run
           h.starts.state;
       ends = h.ends;
       took = subst (λ (old : Option (List ℕ)). Told old
-          (λ taken. after.taken ≡ Some (taken ++ report_text (spoken_lines (script_of bytes)) h.replies))) f.taken
+          (λ taken. after.taken ≡ Some (taken ++ report_text (spoken_lines (unmarked bytes)) h.replies))) f.taken
           h.took;
       status = h.status;
+      text = h.text;
     }
 
 prefix_before : (settings : Settings) → AreSettings settings → (bytes : List ℕ) (before middle after : Outside)
@@ -119,6 +121,18 @@ pub nothing_before : (before middle after : Outside) → Fetched before middle �
     → TookNothing before after
 nothing_before before middle after f h =
     subst (λ (old : Option (List ℕ)). Told old (λ taken. after.taken ≡ Some taken)) f.taken h
+
+pub took_before : (before middle after : Outside) (bytes : List ℕ) → Fetched before middle → Took middle after bytes
+    → Took before after bytes
+took_before before middle after bytes f h =
+    subst (λ (old : Option (List ℕ)). Told old (λ taken. after.taken ≡ Some (taken ++ bytes))) f.taken h
+
+pub first_before : (before middle after : Outside) (bytes : List ℕ) → Fetched before middle → TookFirst middle after bytes
+    → TookFirst before after bytes
+first_before before middle after bytes f h =
+    subst (λ (old : Option (List ℕ)). Told old (λ taken. (count : ℕ) ×
+    (after.taken ≡ Some (taken ++ take count bytes))))
+    f.taken h
 
 either : {P Q R S : Type 0} → (P → R) → (Q → S) → P ⊎ Q → R ⊎ S
 either f g (inl p) = inl (f p)
@@ -164,7 +178,7 @@ got settings are name bytes before middle after result gives f run =
       read_fault = λ e. let r = run.read_fault e in let m = f.faults in omega arith;
       write_fault = λ e. let r = run.write_fault e in let m = f.sink_faults in omega arith;
       too_long = λ e. fetched_long before.files name bytes SCRIPT_LIMIT gives (run.too_long e);
-      not_text = λ e. fetched_bytes before.files name bytes (λ b. (length b ≤ SCRIPT_LIMIT) × ¬ IsUtf8 (script_of b))
+      not_text = λ e. fetched_bytes before.files name bytes (λ b. (length b ≤ SCRIPT_LIMIT) × ¬ IsUtf8 (unmarked b))
           (there (other result _ _ e (λ k. cc))) (run.not_text e);
       usage = run.usage;
       rejected = run.rejected;
@@ -257,7 +271,7 @@ headline_before settings are name before middle after result f h = record {
   too_long = λ e. subst (λ (files : Option Files). OfToldFile name files (λ bytes. SCRIPT_LIMIT < length bytes)) f.files
       (h.too_long e);
   not_text = λ e. subst (λ (files : Option Files). OfToldFile name files
-      (λ bytes. (length bytes ≤ SCRIPT_LIMIT) × ¬ IsUtf8 (script_of bytes))) f.files (h.not_text e);
+      (λ bytes. (length bytes ≤ SCRIPT_LIMIT) × ¬ IsUtf8 (unmarked bytes))) f.files (h.not_text e);
   usage = h.usage;
   rejected = h.rejected;
   bad_weights = h.bad_weights;

@@ -14,26 +14,14 @@ use Rattle.weights_file.specs.declared.TheConstants.{WEIGHTS_LIMIT}
 use Rattle.outside_model.specs.Outside.{Outside}
 use Rattle.session_model.specs.Session.{AreSettings}
 use Rattle.session_model.specs.declared.settings.Settings.{Settings}
-use Rattle.instance_cli.specs.Jobs.{DemoPromise, HasWeights, LacksWeights, ModePromise, TookFirst}
+use Rattle.instance_cli.specs.Jobs.{DemoPromise, HasWeights, LacksWeights, ModePromise}
 use Rattle.instance_cli.specs.Jobs.{Does, TopPromise, settings_with}
-use Rattle.instance_cli.specs.Report.{Took}
 use Rattle.instance_cli.specs.Weights.{SaysNone}
 use Rattle.instance_cli.specs.declared.outcome.Status.{Status}
 use Rattle.instance_cli.specs.declared.outcome.Status.TheVariants as status
 use Rattle.instance_cli.proofs.Headlines.{Fetched, fetched, fetched_bytes, fetched_long, headline_before}
-use Rattle.instance_cli.proofs.Headlines.{nothing_before}
-
-took_before : (before middle after : Outside) (bytes : List ℕ) → Fetched before middle → Took middle after bytes
-    → Took before after bytes
-took_before before middle after bytes f h =
-    subst (λ (old : Option (List ℕ)). Told old (λ taken. after.taken ≡ Some (taken ++ bytes))) f.taken h
-
-first_before : (before middle after : Outside) (bytes : List ℕ) → Fetched before middle → TookFirst middle after bytes
-    → TookFirst before after bytes
-first_before before middle after bytes f h =
-    subst (λ (old : Option (List ℕ)). Told old (λ taken. (count : ℕ) ×
-    (after.taken ≡ Some (taken ++ take count bytes))))
-    f.taken h
+use Rattle.instance_cli.proofs.Headlines.{first_before, nothing_before, took_before}
+use Rattle.instance_cli.proofs.Promises.{verify_before}
 
 demo_before : (settings : Settings) (runs : ℕ) (before middle after : Outside) (result : Status)
     → Fetched before middle → DemoPromise settings runs middle after result → DemoPromise settings runs before after
@@ -55,7 +43,8 @@ mode_before (Run script) settings are before middle after result f h =
     headline_before settings are script before middle after result f h
 mode_before (Demo runs) settings are before middle after result f h =
     demo_before settings runs before middle after result f h
-mode_before (Verify script report) settings are before middle after result f h = (h.0, h.1 ∙ f.taken)
+mode_before (Verify script report) settings are before middle after result f h =
+    verify_before settings script report before middle after result f h
 
 -- Weights.
 

@@ -1,7 +1,12 @@
+pub mod AcceptedReports
 pub mod Bounded
 pub mod Complete
 pub mod Headlines
 pub mod Jobs
+pub mod Promises
 pub mod Runs
 pub mod Scripts
 pub mod Served
+pub mod Walked
+pub mod WeightsRead
+pub mod WrittenReports

@@ -3,6 +3,8 @@ use Rattle.std.proofs.Common.{ℕ, ◌≡◌, ◌<◌, ◌+◌, ◌∙◌, List,
 use Rattle.std.proofs.Common.{get_or, Bor, sym, ap, subst, refl, append_assoc, arith, Bool, true, false, ◌||◌}
 use Rattle.std.proofs.Common.{if◌then◌else◌}
 use Rattle.std.proofs.lemmas.List.{take-append-drop, take_more, map-append, length-take-le, length-map}
+use Rattle.std.specs.Str.{IsUtf8}
+use Rattle.std.proofs.lemmas.Str.{IsUtf8-append}
 use Rattle.outside_model.specs.Files.{Files, Told}
 use Rattle.script_report.specs.Commands.{reading_of}
 use Rattle.script_report.specs.declared.replies.Reply.{Reply}
@@ -63,6 +65,8 @@ reported_on files seen old mid new xs ys first middle last r q e h later =
           (took_on old mid new (report_text xs h.replies) (report_text ys k.replies) h.took k.took);
       status = refusal_append h.replies k.replies
           ∙ (ap (λ (b : Bool). b || some_refusal k.replies) h.status ∙ ap (λ (b : Bool). r || b) k.status);
+      text = subst IsUtf8 (sym (reported (ServesLine files) first middle xs ys h.replies k.replies h.run))
+          (IsUtf8-append (report_text xs h.replies) (report_text ys k.replies) h.text k.text);
     }
 
 -- what was reported, and what is reported in part from there on
@@ -136,7 +140,7 @@ abbrev pub now_of : List (Bor (List ℕ)) → List (List ℕ)
 now_of ls = map (λ l. l.now) ls
 
 -- the spoken lines up to here, and this one
-next_line : (ls : List (Bor (List ℕ))) (i : ℕ) (d : Bor (List ℕ)) → i < length ls →
+pub next_line : (ls : List (Bor (List ℕ))) (i : ℕ) (d : Bor (List ℕ)) → i < length ls →
     spoken_from 1 (now_of (take (i + 1) ls)) ≡ spoken_from 1 (now_of (take i ls)) ++ spoken_from (i + 1)
     ((get_or ls i d).now ∷ [])
 next_line ls i d lt =
@@ -156,7 +160,7 @@ lines_next files seen old mid new ls i d first middle last r q both lt e h k b =
     rw (next_line ls i d lt) (rw b (reported_on files seen old mid new _ _ first middle last r q e h k))
 
 -- the spoken lines up to here are the first of all
-lines_first : (ls : List (Bor (List ℕ))) (i : ℕ) → (rest : List Line)
+pub lines_first : (ls : List (Bor (List ℕ))) (i : ℕ) → (rest : List Line)
     × (spoken_from 1 (now_of ls) ≡ spoken_from 1 (now_of (take i ls)) ++ rest)
 lines_first ls i = (
   spoken_from (1 + length (now_of (take i ls))) (now_of (drop i ls)),

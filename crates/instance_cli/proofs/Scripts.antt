@@ -24,7 +24,7 @@ use Rattle.instance_cli.specs.Bytes.{RunsLines, RunsBytes, RunsWhole, RunsInPart
 use Rattle.instance_cli.specs.Lines.{Stops, WritesInPart}
 use Rattle.instance_cli.specs.Moments.{Moment}
 use Rattle.instance_cli.specs.Report.{IsMissed, ServesLine, IsScript, ReportsRun, ReportsPrefix, EndsWith}
-use Rattle.instance_cli.specs.Script.{script_of}
+use Rattle.instance_cli.specs.Texts.{unmarked}
 use Rattle.instance_cli.specs.declared.outcome.Status.{Status}
 use Rattle.instance_cli.specs.declared.outcome.Status.TheVariants as status
 
@@ -153,7 +153,7 @@ after_cut status.BadWeights files middle rest cut session spoken h = absurd h
 
 -- the whole script was run
 whole : (settings : Settings) → AreSettings settings → (bytes : List ℕ) (before after : Outside) (refused : Bool)
-    → IsScript bytes → RunsWhole settings (lines (script_of bytes)) before after refused → ReportsRun settings bytes
+    → IsScript bytes → RunsWhole settings (lines (unmarked bytes)) before after refused → ReportsRun settings bytes
     before after refused
 whole settings are bytes before after refused script h = record {
   script = script;
@@ -162,24 +162,25 @@ whole settings are bytes before after refused script h = record {
   last = h.0;
   starts = record { state = refl; misses = omega arith };
   run = h.2.run;
-  bound = bounded settings are before.files (first_moment settings before.misses) (spoken_lines (script_of bytes))
+  bound = bounded settings are before.files (first_moment settings before.misses) (spoken_lines (unmarked bytes))
       h.2.replies h.0 h.2.run
       refl;
   ends = h.1;
   took = h.2.took;
   status = h.2.status;
+  text = h.2.text;
 }
 
 -- it was cut short
 cut_short : (settings : Settings) → AreSettings settings → (bytes : List ℕ) (before after : Outside) (result : Status)
-    → IsScript bytes → RunsInPart settings (lines (script_of bytes)) before after result
+    → IsScript bytes → RunsInPart settings (lines (unmarked bytes)) before after result
     → ReportsPrefix settings bytes before after result
 cut_short settings are bytes before after result script h =
     let session : InSession h.middle =
     keeps (ServesLine before.files) InSession (serving_keeps before.files)
     (first_moment settings before.misses) h.done h.replies h.middle (first settings are) h.run in
     let spoken : AreSpoken h.rest =
-    spoken_rest h.done h.rest (subst AreSpoken h.parts (spoken_all 1 (lines (script_of bytes)))) in
+    spoken_rest h.done h.rest (subst AreSpoken h.parts (spoken_all 1 (lines (unmarked bytes)))) in
     let g = after_cut result before.files h.middle h.rest h.cut session spoken h.next in
     record {
       script = script;
@@ -243,7 +244,7 @@ long_bytes settings bytes before after long same = record {
 
 -- one that is no text
 pub no_text : (settings : Settings) (bytes : List ℕ) (before after : Outside) → length bytes ≤ SCRIPT_LIMIT → ¬ IsUtf8
-    (script_of bytes)
+    (unmarked bytes)
     → after.taken ≡ before.taken → RunsBytes settings bytes before after status.NotText
 no_text settings bytes before after short not_utf8 same = record {
   done = λ e. absurd cc;
@@ -288,10 +289,10 @@ ends_at settings r s texts before after e h = subst (λ (x : Status). EndsBy x s
 
 -- its lines were run
 pub bytes_run : (settings : Settings) → AreSettings settings → (bytes : List ℕ) (texts : List (List ℕ))
-    (before after : Outside) (result : Status) → IsScript bytes → texts ≡ lines (script_of bytes)
+    (before after : Outside) (result : Status) → IsScript bytes → texts ≡ lines (unmarked bytes)
     → RunsLines settings texts before after result → RunsBytes settings bytes before after result
 bytes_run settings are bytes texts before after result script same run =
-    let ends : EndsBy result settings (lines (script_of bytes)) before after =
+    let ends : EndsBy result settings (lines (unmarked bytes)) before after =
     subst (λ (ts : List (List ℕ)). EndsBy result settings ts before after) same run.ends in
     record {
       done = λ e. whole settings are bytes before after false script

@@ -2,6 +2,8 @@
 use Rattle.std.proofs.Common.{ℕ, ◌≡◌, ◌≤◌, ◌∙◌, List, [], ◌∷◌, ◌++◌, take, Bool, true, false, IsSome, Option, Some}
 use Rattle.std.proofs.Common.{None, ◌⊎◌, inl, inr, sym, ap, subst, refl, append-nil, if◌then◌else◌}
 use Rattle.std.specs.Option.{option_map}
+use Rattle.std.specs.Str.{IsUtf8}
+use Rattle.std.proofs.lemmas.Str.{IsUtf8-append, IsUtf8-nil}
 use Rattle.outside_model.specs.declared.TheConstants.{FILE_LIMIT}
 use Rattle.outside_model.specs.Files.{Files, Told, up_to}
 use Rattle.script_report.specs.Commands.{Reading, Silent, Says, Bad, reading_of}
@@ -96,27 +98,28 @@ if_same false = refl
 one_reported : (files : Option Files) (old new : Option (List ℕ)) (before after : Moment) (n : ℕ) (text : List ℕ)
     (reply : Reply) (refused : Bool) → Serves files before (reading_of text) reply after →
     Told old (λ taken. new ≡ Some (taken ++ reply_text n reply)) → refused ≡ is_refusal reply
-    → Reported files old new before (line_at n text ∷ []) after refused
-one_reported files old new before after n text reply refused serves taken r = record {
+    → IsUtf8 (reply_text n reply) → Reported files old new before (line_at n text ∷ []) after refused
+one_reported files old new before after n text reply refused serves taken r utf8 = record {
   replies = reply ∷ [];
   run = (after, serves, refl);
   took = took_text old new (reply_text n reply) taken;
   status = if_same (is_refusal reply) ∙ sym r;
+  text = IsUtf8-append (reply_text n reply) [] utf8 IsUtf8-nil;
 }
 
 -- a line was served and its reply taken
 pub reply_reported : (files : Option Files) (old new : Option (List ℕ)) (before after : Moment) (n : ℕ) (text : List ℕ)
     (reply : Reply) (refused : Bool) → Answers files before (reading_of text) (Some reply) after →
     Told old (λ taken. new ≡ Some (taken ++ reply_text n reply)) → refused ≡ is_refusal reply
-    → Reported files old new before (spoken_from n (text ∷ [])) after refused
-reply_reported files old new before after n text reply refused answers taken r =
-    rw answers.0 (one_reported files old new before after n text reply refused answers.1 taken r)
+    → IsUtf8 (reply_text n reply) → Reported files old new before (spoken_from n (text ∷ [])) after refused
+reply_reported files old new before after n text reply refused answers taken r utf8 =
+    rw answers.0 (one_reported files old new before after n text reply refused answers.1 taken r utf8)
 
 -- no line was served
 pub none_reported : (files : Option Files) (old : Option (List ℕ)) (before after : Moment) → after ≡ before
     → Reported files old old before [] after false
 none_reported files old before after e =
-    record { replies = []; run = e; took = took_none old old (told_same old); status = refl }
+    record { replies = []; run = e; took = took_none old old (told_same old); status = refl; text = IsUtf8-nil }
 
 pub silent_reported : (files : Option Files) (old : Option (List ℕ)) (before after : Moment) (n : ℕ) (text : List ℕ)
     → Answers files before (reading_of text) None after

@@ -7,11 +7,11 @@ use Rattle.outside_model.specs.Outside.{Outside}
 use Rattle.session_model.specs.Run.{spoken_from}
 use Rattle.session_model.specs.State.{initial_state}
 use Rattle.session_model.specs.declared.settings.Settings.{Settings}
-use Rattle.instance_cli.specs.Headline.{TookNothing}
 use Rattle.instance_cli.specs.Lines.{Reported, ReportedInPart}
 use Rattle.instance_cli.specs.Moments.{Moment}
+use Rattle.instance_cli.specs.Outsides.{TookNothing}
 use Rattle.instance_cli.specs.Report.{ReportsRun, ReportsPrefix}
-use Rattle.instance_cli.specs.Script.{script_of}
+use Rattle.instance_cli.specs.Texts.{unmarked}
 use Rattle.instance_cli.specs.declared.outcome.Status.{Status}
 use Rattle.instance_cli.specs.declared.outcome.Status.TheVariants as status
 
@@ -59,7 +59,7 @@ pub record RunsBytes (settings : Settings) (bytes : List ℕ) (before after : Ou
   pub read_fault : result ≡ status.ReadFault → Rose before.faults after.faults
   pub write_fault : result ≡ status.WriteFault → Rose before.sink_faults after.sink_faults
   pub too_long : result ≡ status.TooLong → SCRIPT_LIMIT < length bytes
-  pub not_text : result ≡ status.NotText → (length bytes ≤ SCRIPT_LIMIT) × ¬ IsUtf8 (script_of bytes)
+  pub not_text : result ≡ status.NotText → (length bytes ≤ SCRIPT_LIMIT) × ¬ IsUtf8 (unmarked bytes)
   pub usage : result ≡ status.Usage → ⊥
   pub missing : result ≡ status.Missing → ⊥
   pub rejected : result ≡ status.Rejected → ⊥

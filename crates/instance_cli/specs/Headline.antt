@@ -1,27 +1,16 @@
 -- What the run of a script promises: what was written, and why the job ended. To be read aloud.
-use Rattle.std.specs.Prelude.{ℕ, ◌≡◌, ◌<◌, ◌≤◌, ◌⊎◌, List, length, true, false, Option, Some, None}
+use Rattle.std.specs.Prelude.{ℕ, ◌≡◌, ◌<◌, ◌≤◌, ◌⊎◌, List, length, true, false, None}
 use Rattle.std.specs.Str.{IsUtf8}
 use Rattle.outside_model.specs.Causes.{Rose}
 use Rattle.outside_model.specs.declared.TheConstants.{SCRIPT_LIMIT}
-use Rattle.outside_model.specs.Files.{Files, Told}
+use Rattle.outside_model.specs.Files.{Told}
 use Rattle.outside_model.specs.Outside.{Outside}
 use Rattle.session_model.specs.declared.settings.Settings.{Settings}
 use Rattle.instance_cli.specs.Report.{ReportsRun, ReportsPrefix}
-use Rattle.instance_cli.specs.Script.{script_of}
+use Rattle.instance_cli.specs.Texts.{OfFile, OfToldFile, unmarked}
+use Rattle.instance_cli.specs.Outsides.{TookNothing}
 use Rattle.instance_cli.specs.declared.outcome.Status.{Status}
 use Rattle.instance_cli.specs.declared.outcome.Status.TheVariants as status
-
--- the file of this name was read: it is what the files have, where they are told, and this holds of its bytes
-abbrev pub OfFile : List ℕ → Option Files → (List ℕ → Type 0) → Type 0
-OfFile name files P = (bytes : List ℕ) × Told files (λ told. told name ≡ Some bytes) × P bytes
-
--- the same of a file that may have been read in part alone, where the files are told
-abbrev pub OfToldFile : List ℕ → Option Files → (List ℕ → Type 0) → Type 0
-OfToldFile name files P = Told files (λ told. (bytes : List ℕ) × (told name ≡ Some bytes) × P bytes)
-
--- where the sink is told, it took nothing
-abbrev pub TookNothing : Outside → Outside → Type 0
-TookNothing before after = Told before.taken (λ taken. after.taken ≡ Some taken)
 
 -- the run of the script of this name with these settings, with the outside before and after it
 pub record Headline (settings : Settings) (name : List ℕ) (before after : Outside) (result : Status) : Type 0 where
@@ -39,7 +28,7 @@ pub record Headline (settings : Settings) (name : List ℕ) (before after : Outs
   -- with status 7 the script is above 16 MiB, with status 8 it isn't, and is no text
   pub too_long : result ≡ status.TooLong → OfToldFile name before.files (λ bytes. SCRIPT_LIMIT < length bytes)
   pub not_text : result ≡ status.NotText →
-      OfToldFile name before.files (λ bytes. (length bytes ≤ SCRIPT_LIMIT) × ¬ IsUtf8 (script_of bytes))
+      OfToldFile name before.files (λ bytes. (length bytes ≤ SCRIPT_LIMIT) × ¬ IsUtf8 (unmarked bytes))
   -- the words mean a job, nothing is verified, and the weights were read before: 2, 9 and 10 don't come
   pub usage : result ≡ status.Usage → ⊥
   pub rejected : result ≡ status.Rejected → ⊥

@@ -9,8 +9,10 @@ use Rattle.plan_trees.specs.declared.statistics.Weights.{Weights}
 use Rattle.session_model.specs.declared.settings.Settings.{Settings}
 use Rattle.weights_file.specs.Files.{default_weights, weights_of}
 use Rattle.weights_file.specs.declared.TheConstants.{WEIGHTS_LIMIT}
-use Rattle.instance_cli.specs.Headline.{Headline, OfFile, OfToldFile, TookNothing}
-use Rattle.instance_cli.specs.Report.{Took}
+use Rattle.instance_cli.specs.Headline.{Headline}
+use Rattle.instance_cli.specs.Outsides.{Took, TookFirst, TookNothing}
+use Rattle.instance_cli.specs.Texts.{OfFile, OfToldFile}
+use Rattle.instance_cli.specs.Verify.{VerifyPromise}
 use Rattle.instance_cli.specs.declared.outcome.Status.{Status}
 use Rattle.instance_cli.specs.declared.outcome.Status.TheVariants as status
 
@@ -67,11 +69,6 @@ EndsWithoutWeights named before after result =
 
 -- The demo.
 
--- where the sink is told, it took the first of these bytes behind what it had
-abbrev pub TookFirst : Outside → Outside → List ℕ → Type 0
-TookFirst before after bytes =
-    Told before.taken (λ taken. (count : ℕ) × (after.taken ≡ Some (taken ++ take count bytes)))
-
 -- what a demo may end with
 abbrev pub IsDemoStatus : Status → Type 0
 IsDemoStatus status.Done = Unit {0}
@@ -96,7 +93,7 @@ abbrev pub ModePromise : Mode → Settings → Outside → Outside → Status �
 ModePromise (Run script) settings before after result = Headline settings script before after result
 ModePromise (Demo runs) settings before after result = DemoPromise settings runs before after result
 ModePromise (Verify script report) settings before after result =
-    (result ≡ status.Usage) × (after.taken ≡ before.taken)
+    VerifyPromise settings script report before after result
 
 -- the job was done, or begun, with its weights
 pub record Does (job : Job) (before after : Outside) (result : Status) : Type 0 where

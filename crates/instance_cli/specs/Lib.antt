@@ -1,4 +1,5 @@
 pub mod Bytes
+pub mod Halts
 pub mod Headline
 pub mod Jobs
 pub mod Laws
@@ -6,6 +7,7 @@ pub mod Lines
 pub mod Moments
 pub mod Outsides
 pub mod Report
-pub mod Script
 pub mod Statuses
+pub mod Texts
+pub mod Verify
 pub mod Weights

@@ -1,5 +1,6 @@
 -- What serving some lines leaves, from whatever moment on.
 use Rattle.std.specs.Prelude.{ℕ, ◌≡◌, ◌≤◌, List, [], ◌∷◌, ◌++◌, take, Bool, true, false, Option, Some, None}
+use Rattle.std.specs.Str.{IsUtf8}
 use Rattle.outside_model.specs.Files.{Files, Told}
 use Rattle.script_report.specs.Commands.{Reading}
 use Rattle.script_report.specs.Replies.{reply_text}
@@ -22,6 +23,7 @@ pub record Reported (files : Option Files) (old new : Option (List ℕ)) (first 
   pub run : IsChain (ServesLine files) first lines replies last
   pub took : Told old (λ taken. new ≡ Some (taken ++ report_text lines replies))
   pub status : some_refusal replies ≡ refused
+  pub text : IsUtf8 (report_text lines replies)
 
 -- the next line was served, and the first bytes of its reply were taken
 abbrev pub WritesInPart : Option Files → Moment → List Line → List ℕ → Type 0

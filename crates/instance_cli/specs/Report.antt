@@ -1,5 +1,5 @@
 -- What serving the lines of a script leaves: a run, and its report in the sink.
-use Rattle.std.specs.Prelude.{ℕ, ◌≡◌, ◌≤◌, List, [], ◌∷◌, ◌++◌, take, length, Bool, Option, Some, None, IsSome}
+use Rattle.std.specs.Prelude.{ℕ, ◌≡◌, ◌≤◌, List, [], ◌∷◌, ◌++◌, take, Bool, Option, Some, None, IsSome}
 use Rattle.std.specs.Str.{IsUtf8}
 use Rattle.outside_model.specs.Causes.{Rose}
 use Rattle.outside_model.specs.declared.TheConstants.{SCRIPT_LIMIT}
@@ -14,7 +14,8 @@ use Rattle.session_model.specs.Step.{Step, asks_for, file_of}
 use Rattle.session_model.specs.declared.settings.Settings.{Settings}
 use Rattle.session_bound.specs.Bound.{AreBounded}
 use Rattle.instance_cli.specs.Moments.{Moment, state_at}
-use Rattle.instance_cli.specs.Script.{script_of}
+use Rattle.instance_cli.specs.Outsides.{Took}
+use Rattle.instance_cli.specs.Texts.{IsText, unmarked}
 use Rattle.instance_cli.specs.declared.outcome.Status.{Status}
 use Rattle.instance_cli.specs.declared.outcome.Status.TheVariants as status
 
@@ -42,32 +43,28 @@ ServesLine files before line reply after = Serves files before (reading_of line.
 -- Scripts.
 
 -- the bytes of a script that is run: few enough, and a text
-pub record IsScript (bytes : List ℕ) : Type 0 where
-  pub short : length bytes ≤ SCRIPT_LIMIT
-  pub utf8 : IsUtf8 (script_of bytes)
+abbrev pub IsScript : List ℕ → Type 0
+IsScript bytes = IsText SCRIPT_LIMIT bytes
 
 -- the first state of a session with these settings, once the script was fetched
 pub record Starts (settings : Settings) (before : Outside) (first : Moment) : Type 0 where
   pub state : first.state ≡ initial_state settings
   pub misses : before.misses ≤ first.misses
 
--- where the sink is told, it took this behind what it had
-abbrev pub Took : Outside → Outside → List ℕ → Type 0
-Took before after bytes = Told before.taken (λ taken. after.taken ≡ Some (taken ++ bytes))
-
--- the script of these bytes was run with these settings: all of its lines were served, what was taken is their report, and some reply is a
--- refusal or none
+-- the script of these bytes was run with these settings: all of its lines were served, what was taken is their report,
+-- which is a text, and some reply is a refusal or none
 pub record ReportsRun (settings : Settings) (bytes : List ℕ) (before after : Outside) (refused : Bool) : Type 0 where
   pub script : IsScript bytes
   pub replies : List Reply
   pub first : Moment
   pub last : Moment
   pub starts : Starts settings before first
-  pub run : IsChain (ServesLine before.files) first (spoken_lines (script_of bytes)) replies last
-  pub bound : AreBounded state_at (ServesLine before.files) [] first (spoken_lines (script_of bytes)) replies last run
+  pub run : IsChain (ServesLine before.files) first (spoken_lines (unmarked bytes)) replies last
+  pub bound : AreBounded state_at (ServesLine before.files) [] first (spoken_lines (unmarked bytes)) replies last run
   pub ends : last.misses ≤ after.misses
-  pub took : Took before after (report_text (spoken_lines (script_of bytes)) replies)
+  pub took : Took before after (report_text (spoken_lines (unmarked bytes)) replies)
   pub status : some_refusal replies ≡ refused
+  pub text : IsUtf8 (report_text (spoken_lines (unmarked bytes)) replies)
 
 -- Cuts.
 
@@ -104,7 +101,7 @@ pub record ReportsPrefix (settings : Settings) (bytes : List ℕ) (before after 
   pub script : IsScript bytes
   pub done : List Line
   pub rest : List Line
-  pub parts : spoken_lines (script_of bytes) ≡ done ++ rest
+  pub parts : spoken_lines (unmarked bytes) ≡ done ++ rest
   pub first : Moment
   pub middle : Moment
   pub last : Moment

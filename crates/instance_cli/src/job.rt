@@ -11,6 +11,7 @@ ghost use Rattle.instance_cli.specs.Outsides.{outside_of};
 use crate::demo::write_demo;
 use crate::outcome::Status;
 use crate::run::run_script;
+use crate::verify::verify_report;
 use crate::weights::weights_for;
 use command_words::{Job, Mode, Options, read_words};
 use outside_io::{Shelf, Sink};
@@ -52,7 +53,14 @@ fn do_mode<F: Shelf, K: Sink>(
 {
     match mode {
         Mode::Run(script) => run_script(alloc, settings, script.as_str(), shelf, sink),
-        Mode::Verify(_, _) => Status::Usage,
+        Mode::Verify(script, report) => verify_report(
+            alloc,
+            settings,
+            script.as_str(),
+            report.as_str(),
+            shelf,
+            sink,
+        ),
         Mode::Demo(runs) => write_demo(alloc, settings, *runs, shelf, sink),
     }
 }
@@ -79,8 +87,8 @@ fn do_job<F: Shelf, K: Sink>(alloc: Global, job: &Job, shelf: &mut F, sink: &mut
     }
 }
 
-/// The program's job over these words: what was written is what they ask for, the report of a run of a script or the
-/// demo's summary, and the status tells why the job ended.
+/// The program's job over these words: what was written is what they ask for, the report of a run of a script, the
+/// line that says what a report's verification ends with, or the demo's summary; and the status tells why the job ended.
 pub fn scr<F: Shelf, K: Sink>(
     alloc: Global,
     words: &[String],

@@ -1,37 +1,17 @@
 //! Running a script: its bytes, its text, its lines. It can answer every status but 2, 9 and 10.
-ghost use Rattle.std.specs.Prelude.{◌≡◌, ◌≤◌, ◌<◌, ◌+◌, ◌^◌, length, map, IfOk};
-ghost use Rattle.std.specs.Str.Lines.{lines as lines_of};
+ghost use Rattle.std.specs.Prelude.{◌<◌, ◌^◌, length, map};
 ghost use Rattle.instance_cli.specs.Bytes.{RunsBytes, RunsLines};
 ghost use Rattle.session_model.specs.Session.{AreSettings};
 ghost use Rattle.instance_cli.specs.Headline.{Headline};
 ghost use Rattle.instance_cli.specs.Outsides.{outside_of};
-ghost use Rattle.instance_cli.specs.Script as texts;
 
 use crate::outcome::Status;
 use crate::serving::serve_lines;
+use crate::texts::{split, unmarked};
 use outside_io::{Fetched, Shelf, Sink};
 use outside_model::SCRIPT_LIMIT;
-use row_values::OutOfMemory;
 use session_engine::Settings;
 use std::alloc::Global;
-
-/// The bytes without the byte order mark in front.
-fn script_of(bytes: &[u8]) -> &[u8]
-    ensures { result.now ≡ texts.script_of bytes.now }
-{
-    match bytes {
-        [0xEF, 0xBB, 0xBF, text @ ..] => text,
-        _ => bytes,
-    }
-}
-
-/// The lines of a text: at most one more than it has bytes.
-fn split(alloc: Global, text: &str) -> Result<Vec<&str>, OutOfMemory>
-    ensures value { IfOk result (λ lines. map (λ line. line.now) lines.items ≡ lines_of text.now) }
-    ensures few { IfOk result (λ lines. length lines.items ≤ length text.now + 1) }
-{
-    text.lines().collect(alloc)
-}
 
 /// Runs the lines of a script.
 fn run_lines<F: Shelf, K: Sink>(
@@ -76,7 +56,7 @@ fn run_bytes<F: Shelf, K: Sink>(
     if bytes.len() > SCRIPT_LIMIT {
         return Status::TooLong;
     }
-    match str::from_utf8(script_of(bytes)) {
+    match str::from_utf8(unmarked(bytes)) {
         Err(_) => Status::NotText,
         Ok(text) => match split(alloc, text) {
             Err(_) => Status::Memory,

@@ -5,6 +5,7 @@
 ghost use Rattle.std.specs.Prelude.{◌≡◌, ◌≢◌, ◌≤◌, ◌<◌, ◌^◌, ◌+◌, ◌⊎◌, ◌||◌, ◌∷◌, [], ◌++◌, IfOk, IfErr, IsSome, OnOk};
 ghost use Rattle.std.specs.Prelude.{map, length, ℕ, take, true, false, Some, None};
 ghost use Rattle.std.specs.Option.{option_map};
+ghost use Rattle.std.specs.Str.{IsUtf8};
 ghost use Rattle.outside_model.specs.Causes.{Rose};
 ghost use Rattle.outside_model.specs.Files.{Told, up_to};
 ghost use Rattle.script_report.specs.Commands.{Says, reading_of};
@@ -27,7 +28,7 @@ use std::alloc::Global;
 
 /// What became of the file that a line asks for.
 #[derive(Clone, Copy, Debug, PartialEq, Eq)]
-enum Found {
+pub enum Found {
     File,
     Nothing,
     Failed,
@@ -35,7 +36,12 @@ enum Found {
 }
 
 /// Fetches the file that a command asks for.
-fn fetch_for<F: Shelf>(alloc: Global, command: &Command, shelf: &mut F, into: &mut Vec<u8>) -> Found
+pub fn fetch_for<F: Shelf>(
+    alloc: Global,
+    command: &Command,
+    shelf: &mut F,
+    into: &mut Vec<u8>,
+) -> Found
     ensures files { F.files shelf.new ≡ F.files shelf.old }
     ensures file { result ≡ Found.File → Told (F.files shelf.old)
         (λ files. option_map (up_to FILE_LIMIT) (file_of files (Says command.now)) ≡ Some into.new.items) }
@@ -132,6 +138,7 @@ fn write_reply<K: Sink>(
 ) -> Result<(), Status>
     ensures ok { OnOk result (Told (K.taken sink.old)
         (λ bytes. K.taken sink.new ≡ Some (bytes ++ reply_text number reply.now))) }
+    ensures text { OnOk result (IsUtf8 (reply_text number reply.now)) }
     ensures write { result ≡ Err Status.WriteFault → Told (K.taken sink.old)
         (λ bytes. (count : ℕ) × (K.taken sink.new ≡ Some (bytes ++ take count (reply_text number reply.now)))) }
     ensures memory { result ≡ Err Status.Memory → Told (K.taken sink.old) (λ bytes. K.taken sink.new ≡ Some bytes) }

@@ -178,7 +178,7 @@ fn ends_of_ranges(rt: HostRuntime) -> Result<(), Fail> {
 }
 
 /// So many rows of a number that begins anew after this many, and the row's own number.
-fn numbered_rows(
+pub fn numbered_rows(
     alloc: Global,
     header: &str,
     rows: u64,
@@ -981,8 +981,59 @@ fn faults(rt: HostRuntime) -> Result<(), Fail> {
     Ok(())
 }
 
+/// Whether the job over a load, a preparation and a run ends so and writes this first, where the table's file has these
+/// bytes.
+fn begins_with(
+    alloc: Global,
+    table: &[u8],
+    want: Status,
+    report: &str,
+) -> Result<bool, OutOfMemory> {
+    let mut shelf = MemShelf::new(alloc);
+    shelf.put_file(
+        "a.scr",
+        b"load t t.csv\nprepare q SELECT v FROM t WHERE v < ?\nrun q 10\n",
+    )?;
+    shelf.put_file("t.csv", table)?;
+    let mut sink = MemSink::new(alloc);
+    let words = run_words(alloc, "a.scr")?;
+    let status = scr(alloc, words.as_slice(), &mut shelf, &mut sink);
+    let written = sink.taken().starts_with(report.as_bytes());
+    Ok(status == want && written && shelf.calls() == 2)
+}
+
+#[test]
+fn files_that_are_cut(rt: HostRuntime) -> Result<(), Fail> {
+    let none = "1 refused 15 not a table bad header 1\n2 refused 2 unknown table t\n\
+                3 refused 5 unknown statement q\n";
+    // The bytes of the file, how the job ends, and how its report begins.
+    let cases: [(&[u8], Status, &str); 4] = [
+        (
+            b"\xef\xbb\xbfv\r\n1",
+            Status::Done,
+            "1 loaded t rows 1 columns 1\n2 prepared q",
+        ),
+        (
+            b"\xef\xbb\xbfv",
+            Status::DoneRefused,
+            "1 loaded t rows 0 columns 1\n2 prepared q tables 1 predicates 1 parameters 1\n\
+             3 refused 10 argument kind 1\n",
+        ),
+        (b"\xef\xbb", Status::DoneRefused, none),
+        (b"", Status::DoneRefused, none),
+    ];
+    for (table, want, report) in cases {
+        assert!(rt; begins_with(rt.alloc(), table, want, report)?, "{table:?}");
+    }
+    Ok(())
+}
+
 /// What the job over these words and files writes, and how it ends.
-fn job_of(alloc: Global, words: &[&str], files: &[(&str, &str)]) -> Result<(String, Status), Fail> {
+pub fn job_of(
+    alloc: Global,
+    words: &[&str],
+    files: &[(&str, &str)],
+) -> Result<(String, Status), Fail> {
     let mut shelf = SureShelf::new(alloc);
     for (name, text) in files {
         shelf.put_file(name, text.as_bytes())?;
@@ -1000,9 +1051,12 @@ fn job_of(alloc: Global, words: &[&str], files: &[(&str, &str)]) -> Result<(Stri
 #[test]
 fn words_and_weights(rt: HostRuntime) -> Result<(), Fail> {
     let run = "load t t.csv\nprepare q SELECT v FROM t WHERE v < ?\nrun q 10\n";
+    let long = vec![in rt.alloc(); b' '; 65537]?;
+    let long = str::from_utf8(long.as_slice()).map_err(|_| Fail::from("no text"))?;
     let files = [
         ("a.scr", run),
         ("t.csv", "v\n1\n5\n12\n"),
+        ("long", long),
         (
             "heavy",
             "{\"row\":3,\"fetch\":2,\"probe\":1,\"hash\":2,\"sort\":1,\"out\":1}",
@@ -1014,7 +1068,7 @@ fn words_and_weights(rt: HostRuntime) -> Result<(), Fail> {
         ("cut", "{\"row\":1"),
     ];
     // The words, how the job ends, and a line of what it writes.
-    let cases: [(&[&str], Status, &str); 16] = [
+    let cases: [(&[&str], Status, &str); 17] = [
         (&["run", "a.scr"], Status::Done, "cost 3298534883328"),
         (
             &["--weights", "heavy", "run", "a.scr"],
@@ -1037,6 +1091,7 @@ fn words_and_weights(rt: HostRuntime) -> Result<(), Fail> {
             Status::BadWeights,
             "",
         ),
+        (&["run", "a.scr", "--weights", "long"], Status::TooLong, ""),
         (&["run", "a.scr", "--weights", "far"], Status::Missing, ""),
         (&["run", "far", "--weights", "cut"], Status::BadWeights, ""),
         (&["run", "far", "--weights", "heavy"], Status::Missing, ""),

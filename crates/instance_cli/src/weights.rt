@@ -4,7 +4,6 @@
 ghost use Rattle.std.specs.Prelude.{◌≡◌, ◌≤◌, IfErr, IfOk, Some, length, option_map};
 ghost use Rattle.plan_trees.specs.Statistics.{AreWeights};
 ghost use Rattle.weights_file.specs.Files.{weights_of};
-ghost use Rattle.instance_cli.specs.Headline.{OfFile};
 ghost use Rattle.instance_cli.specs.Jobs.{HasWeights, LacksWeights, LacksWeightsIf};
 ghost use Rattle.instance_cli.specs.Weights.{SaysNone};
 

@@ -1,7 +1,7 @@
 use Rattle.std.proofs.Common.{◌≡◌, refl, rules, ap, ◌∙◌}
 use Rattle.std.specs.Str.{IsUtf8}
 use Rattle.std.specs.Str.Lines.{lines}
-use Rattle.instance_cli.specs.Script.{script_of}
+use Rattle.instance_cli.specs.Texts.{unmarked}
 use Rattle.instance_cli.proofs.Runs.{now_of}
 use Rattle.instance_cli.proofs.Scripts.{long_bytes, bytes_run}
 use Rattle.instance_cli.proofs.run.run_bytes.Goals as goal
@@ -12,8 +12,8 @@ returns-then-bytes-gt-SCRIPT_LIMIT g c = long_bytes c.args.settings c.args.bytes
 
 pub returns-in-Ok-split : goal.returns-in-Ok-split
 returns-in-Ok-split g c =
-    let text : c.in-Ok.text.now ≡ script_of c.args.bytes.now = search rules in
-    let utf8 : IsUtf8 (script_of c.args.bytes.now) = rw (← c.script_of.ensures) c.in-Ok.ensures.cases.1 in
+    let text : c.in-Ok.text.now ≡ unmarked c.args.bytes.now = search rules in
+    let utf8 : IsUtf8 (unmarked c.args.bytes.now) = rw (← c.unmarked.ensures) c.in-Ok.ensures.cases.1 in
     let texts : now_of c.as_slice.result.now ≡ lines c.in-Ok.text.now = search rules in
     bytes_run c.args.settings c.requires c.args.bytes.now _ _ _ _
     (record { short = c.if-bytes-gt-SCRIPT_LIMIT.false; utf8 = utf8 })

@@ -21,4 +21,4 @@ pub returns-clause-ok : goal.returns-clause-ok
 returns-clause-ok g c =
     let answers = rw c.in-Ok-Some.field-0-is at c.in-Ok-Some.ensures.ok in
     reply_reported _ _ _ _ _ c.args.number c.args.text.now c.in-Ok-Some.reply _ answers c.in-Ok.ensures.ok
-    c.is_refused.ensures
+    c.is_refused.ensures c.in-Ok.ensures.text

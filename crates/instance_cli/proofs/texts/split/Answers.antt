@@ -1,6 +1,6 @@
 use Rattle.std.proofs.lemmas.Iterator.Consumers.{map_from_collect}
 use Rattle.std.proofs.lemmas.Iterator.Splits.{YieldsList-from_lines}
-use Rattle.instance_cli.proofs.run.split.Goals as goal
+use Rattle.instance_cli.proofs.texts.split.Goals as goal
 
 pub returns-clause-value : goal.returns-clause-value
 returns-clause-value c =
