@@ -77,4 +77,6 @@ for script in sales zones; do
 done
 if python3 -c 'import sqlite3' 2>/dev/null; then
     python3 "$here/joins_sqlite.py" sales.scr
+else
+    echo "sqlite: left out, since python3 has no module sqlite3"
 fi

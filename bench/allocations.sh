@@ -1,0 +1,61 @@
+#!/usr/bin/env bash
+# Each allocation failing in turn, over the scripts of examples/.
+#
+# A small allocator is built and preloaded that refuses the Nth request. The program then has to end with status 6,
+# `scr: out of memory` and the beginning of its report up to a whole reply; or, where it can do without, with its whole
+# report and its own status. `allocations.sh 500` makes 500 runs of an example at most, spread over its requests.
+set -eu
+cd "$(dirname "$0")"
+work=$(mktemp -d)
+trap 'rm -rf "$work"' EXIT
+gcc -O2 -shared -fPIC -o "$work/failing_malloc.so" failing_malloc.c
+python3 - "$work" "${1:-1000}" <<'PYTHON'
+import os
+import subprocess
+import sys
+
+work, most = sys.argv[1], int(sys.argv[2])
+program = os.path.realpath("../crates/scr/out/scr")
+subprocess.run(["../scr", "run", "none"], stderr=subprocess.DEVNULL)  # builds it, where it isn't there
+
+
+def run(folder, script, number):
+    """The status, the report and the standard error of a run whose request of this number is refused."""
+    env = {"LD_PRELOAD": f"{work}/failing_malloc.so", "FAIL_ALLOC": str(number), "COUNT_ALLOC": f"{work}/count"}
+    done = subprocess.run([program, "run", script], cwd=folder, env=env, capture_output=True)
+    return done.returncode, done.stdout, done.stderr
+
+
+def whole_replies(report):
+    """The beginnings of a report that end with a whole reply."""
+    ends, done = {b""}, b""
+    for line in report.splitlines(keepends=True):
+        if line[:1].isdigit():
+            ends.add(done)
+        done += line
+    return ends | {done}
+
+
+bad = 0
+for name in sorted(os.listdir("../examples")):
+    folder, script = f"../examples/{name}", f"{name}.scr"
+    whole = run(folder, script, 0)
+    with open(f"{work}/count") as file:
+        count = int(file.read())
+    if count < 10:
+        sys.exit(f"{name}: {count} requests were seen: the program doesn't take its memory from the C library")
+    ends = whole_replies(whole[1])
+    numbers = range(1, count + 1, max(1, count // most))
+    ended = {"status 6": 0, "the whole report": 0}
+    for number in numbers:
+        got = run(folder, script, number)
+        if got == whole:
+            ended["the whole report"] += 1
+        elif got[0] == 6 and got[1] in ends and got[2] == b"scr: out of memory\n":
+            ended["status 6"] += 1
+        else:
+            bad += 1
+            print(f"{name}: request {number}: status {got[0]}, {len(got[1])} bytes, {got[2][:80]!r}")
+    print(f"{name}: {count} requests, {len(numbers)} refused in turn: {ended}")
+sys.exit(1 if bad else 0)
+PYTHON
