@@ -31,11 +31,11 @@ use Rattle.report_verifier.proofs.SoundWalks.{first_sound}
 use Rattle.accepted_reports.specs.Accepted.{AcceptedLaw as RunsAreAccepted, executed, too_large}
 use Rattle.instance_cli.specs.Headline.{Headline}
 use Rattle.instance_cli.specs.Jobs.{EndsWithoutWeights, HasWeights, IsWithoutWeights, TopPromise, settings_with}
-use Rattle.instance_cli.specs.Laws.{AcceptedLaw, AreAlike, AreThere, GetAlike, IsReportOf, NothingFails}
+use Rattle.instance_cli.specs.Laws.{AcceptedLaw, AreThere, GetAlike, IsReportOf, NothingFails}
 use Rattle.instance_cli.specs.Moments.{Moment, state_at}
 use Rattle.instance_cli.specs.Report.{ReportsRun, ServesLine}
 use Rattle.instance_cli.specs.Texts.{IsText, unmarked}
-use Rattle.instance_cli.specs.Verify.{TakesLine, VerifiesItems, VerifiesReport, VerifyPromise, walk_before}
+use Rattle.instance_cli.specs.Verify.{TakesLine, VerifiesItems, VerifiesReport, VerifyPromise}
 use Rattle.instance_cli.specs.declared.outcome.Status.{Status}
 use Rattle.instance_cli.specs.declared.outcome.Status.TheVariants as status
 use Rattle.instance_cli.proofs.Complete.{has_text, same_file, told_of, weighed}

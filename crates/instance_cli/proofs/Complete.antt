@@ -1,8 +1,7 @@
 -- Where all that a job names is there and nothing fails, it is done.
 use Rattle.std.proofs.Common.{ℕ, ◌≡◌, ◌≤◌, ◌<◌, ◌∙◌, List, length, Option, Some, None, inl, inr, arith, refl, subst, sym}
 use Rattle.std.specs.Str.{IsUtf8}
-use Rattle.command_words.specs.Jobs.{Demo, Job, Mode, Run, Verify}
-use Rattle.outside_model.specs.Causes.{Rose}
+use Rattle.command_words.specs.Jobs.{Demo, Mode, Run, Verify}
 use Rattle.outside_model.specs.declared.TheConstants.{SCRIPT_LIMIT}
 use Rattle.outside_model.specs.Files.{Files, Told}
 use Rattle.outside_model.specs.Outside.{Outside}
@@ -10,7 +9,7 @@ use Rattle.weights_file.specs.Files.{weights_of}
 use Rattle.weights_file.specs.declared.TheConstants.{WEIGHTS_LIMIT}
 use Rattle.session_model.specs.declared.settings.Settings.{Settings}
 use Rattle.instance_cli.specs.Headline.{Headline}
-use Rattle.instance_cli.specs.Jobs.{DemoPromise, EndsWithoutWeights, ModePromise, TopPromise}
+use Rattle.instance_cli.specs.Jobs.{DemoPromise, EndsWithoutWeights, ModePromise}
 use Rattle.report_items.specs.Items.{items_of}
 use Rattle.report_items.specs.declared.TheConstants.{REPORT_LIMIT}
 use Rattle.report_items.specs.declared.items.ReportItem.{ReportItem}

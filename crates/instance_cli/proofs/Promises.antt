@@ -1,6 +1,6 @@
 -- What is promised of a verification, from what fetching the texts, the walk and the put told.
-use Rattle.std.proofs.Common.{ℕ, ◌≡◌, ◌≤◌, ◌<◌, ◌++◌, ◌∙◌, ◌⊎◌, inl, inr, List, Option, Some, None, Result, arith, length}
-use Rattle.std.proofs.Common.{subst, sym, take}
+use Rattle.std.proofs.Common.{ℕ, ◌≡◌, ◌≤◌, ◌<◌, ◌∙◌, ◌⊎◌, inl, inr, List, Option, Some, None, Result, arith, length}
+use Rattle.std.proofs.Common.{subst, sym}
 use Rattle.std.specs.Str.{IsUtf8}
 use Rattle.outside_model.specs.Causes.{Rose}
 use Rattle.outside_model.specs.declared.TheConstants.{SCRIPT_LIMIT}
@@ -20,8 +20,7 @@ use Rattle.report_verifier.proofs.SoundWalks.{all_matched, first_sound}
 use Rattle.session_model.specs.Run.{Line, spoken_lines}
 use Rattle.session_model.specs.Session.{AreSettings}
 use Rattle.session_model.specs.declared.settings.Settings.{Settings}
-use Rattle.instance_cli.specs.Halts.{Tells, status_by}
-use Rattle.instance_cli.specs.Outsides.{TookNothing}
+use Rattle.instance_cli.specs.Halts.{Tells}
 use Rattle.instance_cli.specs.Texts.{EndsWithoutText, IsText, LacksText, OfText, OfToldFile, unmarked}
 use Rattle.instance_cli.specs.Verify.{EndsWalk, IsOfWalk, TakesLine, TakesLines, VerifiesItems, VerifiesReport}
 use Rattle.instance_cli.specs.Verify.{VerifyPromise, walk_before}

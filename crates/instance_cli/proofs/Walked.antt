@@ -4,10 +4,9 @@ use Rattle.std.proofs.Common.{Bor, false, true, append-nil, append_assoc, ap, ar
 use Rattle.std.proofs.Common.{IfOk}
 use Rattle.std.specs.Option.{option_map}
 use Rattle.std.specs.Str.Lines.{lines}
-use Rattle.outside_model.specs.Causes.{Rose}
 use Rattle.outside_model.specs.declared.TheConstants.{FILE_LIMIT}
 use Rattle.outside_model.specs.Files.{Files, Told, up_to}
-use Rattle.script_report.specs.Commands.{Reading, Silent, Says, Bad, reading_of}
+use Rattle.script_report.specs.Commands.{Reading, Bad, reading_of}
 use Rattle.session_model.specs.Run.{Line, is_silent, spoken_from, spoken_lines}
 use Rattle.session_model.specs.Step.{asks_for, file_of}
 use Rattle.report_verifier.specs.Verification.{Taking, Verifies, Walks, at_end}

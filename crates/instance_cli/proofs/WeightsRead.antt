@@ -1,5 +1,5 @@
 -- Weights that a file says, and the usual ones, are within their bounds.
-use Rattle.std.proofs.Common.{ℕ, ◌≡◌, ◌≤◌, ◌&&◌, nat_le, List, Bool, true, false, Option, Some, None, arith, refl, subst, sym}
+use Rattle.std.proofs.Common.{ℕ, ◌≡◌, ◌&&◌, nat_le, List, Bool, true, false, Option, Some, None, arith, refl, subst, sym}
 use Rattle.std.proofs.Common.{option_and_then, if◌then◌else◌, codes}
 use Rattle.std.proofs.lemmas.Bool.{leb-true}
 use Rattle.std.proofs.lemmas.Option.{none-some, same_Some}
@@ -9,7 +9,7 @@ use Rattle.plan_trees.specs.Statistics.{AreWeights, IsWithin}
 use Rattle.plan_trees.specs.declared.statistics.Weights.{Weights}
 use Rattle.serde_json.specs.Data.{Data}
 use Rattle.serde_json.specs.Find.{as_number, as_object, as_u64, get}
-use Rattle.weights_file.specs.Files.{default_weights, has_six, json_of, weight_from, weight_in, weights_in, weights_of}
+use Rattle.weights_file.specs.Files.{default_weights, has_six, json_of, weight_from, weight_in, weights_in}
 use Rattle.instance_cli.specs.Jobs.{HasWeights}
 
 -- something was read of something

@@ -1,5 +1,5 @@
 -- What a job promises: its settings, its weights, and what it does with them.
-use Rattle.std.specs.Prelude.{ℕ, ◌≡◌, ◌≤◌, ◌<◌, ◌++◌, ◌⊎◌, List, take, length, Option, Some, None}
+use Rattle.std.specs.Prelude.{ℕ, ◌≡◌, ◌≤◌, ◌<◌, ◌⊎◌, List, length, Option, Some, None}
 use Rattle.command_words.specs.Jobs.{Demo, Job, Mode, Options, Run, Verify}
 use Rattle.demo_run.specs.Demo.{TellsDemo}
 use Rattle.outside_model.specs.Causes.{Rose}

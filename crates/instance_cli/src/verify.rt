@@ -2,7 +2,6 @@
 //! written. It executes nothing. It can answer every status but 1, 2 and 10.
 ghost use Rattle.std.specs.Prelude.{◌≡◌, ◌≤◌, ◌<◌, ◌+◌, ◌^◌, ◌∷◌, [], ◌⊎◌, IfErr, IfOk, OnOk, Ok, length, map};
 ghost use Rattle.outside_model.specs.Causes.{Rose};
-ghost use Rattle.plan_trees.specs.Statistics.{AreWeights};
 ghost use Rattle.report_items.specs.Items.{items_of};
 ghost use Rattle.report_verifier.specs.Verification.{Verifies, Walks};
 ghost use Rattle.script_report.specs.Commands.{Says};
@@ -11,7 +10,7 @@ ghost use Rattle.session_model.specs.Session.{AreSettings};
 ghost use Rattle.instance_cli.specs.Halts.{Halted, HaltedAt, Tells, halt_of, status_by, verification_by};
 ghost use Rattle.instance_cli.specs.Outsides.{outside_of};
 ghost use Rattle.instance_cli.specs.Texts.{LacksText, OfText};
-ghost use Rattle.instance_cli.specs.Verify.{TakesLine, TakesReading, VerifiesItems, VerifiesReport, VerifyPromise};
+ghost use Rattle.instance_cli.specs.Verify.{TakesLine, TakesReading, VerifiesReport, VerifyPromise};
 ghost use Rattle.instance_cli.specs.Verify.{walk_before};
 
 use crate::outcome::Status;

@@ -1,5 +1,5 @@
 -- Walks that go on, and the same walks where lines are taken by another relation.
-use Rattle.std.proofs.Common.{ℕ, ◌≡◌, List, [], ◌∷◌, ◌++◌, Result, Ok, Err, subst}
+use Rattle.std.proofs.Common.{ℕ, List, [], ◌∷◌, ◌++◌, Result, Ok, Err, subst}
 use Rattle.session_model.specs.Run.{Line}
 use Rattle.report_verifier.specs.Soundness.{AreMatched}
 use Rattle.report_verifier.specs.Verification.{GoesOn, Taking, Verifies, Walks}

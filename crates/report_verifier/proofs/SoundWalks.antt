@@ -6,7 +6,6 @@ use Rattle.std.proofs.lemmas.Bool.Decides.{nat_tests}
 use Rattle.std.proofs.lemmas.Option.{none-some, same_Some}
 use Rattle.std.proofs.lemmas.List.Elements.{All-nil}
 use Rattle.fraction_math.specs.Fraction.{Fraction}
-use Rattle.outside_model.specs.Files.{Files}
 use Rattle.row_values.specs.Statements.{IsSoundQuery, Statement}
 use Rattle.row_values.specs.declared.refusals.Refusal.{Refusal}
 use Rattle.row_values.specs.declared.values.Value.{Value}
@@ -41,7 +40,6 @@ use Rattle.catalog_model.proofs.Measures.{measured, statement_found}
 use Rattle.catalog_model.proofs.Numbers.{numbered}
 use Rattle.catalog_model.proofs.Preparations.{prepared as catalog_prepared}
 use Rattle.session_model.specs.Run.{Line}
-use Rattle.session_model.specs.Step.{file_of}
 use Rattle.report_verifier.specs.Findings.{Accepts, Finding, Finds, SaidTooLarge, TurnsDown}
 use Rattle.report_verifier.specs.Claims.{IsBlockJudged}
 use Rattle.report_verifier.specs.Sound.{IsSoundWalk}

@@ -5,7 +5,6 @@ use Rattle.std.specs.Str.Lines.{lines}
 use Rattle.outside_model.specs.Files.{Files}
 use Rattle.script_report.specs.Commands.{reading_of}
 use Rattle.script_report.specs.declared.replies.Reply.{Reply}
-use Rattle.report_items.specs.Written.{IsNumber}
 use Rattle.session_model.specs.Run.{IsChain, Line, Run, StepOver, is_silent, spoken_from, spoken_lines}
 use Rattle.session_model.specs.Session.{AreSettings, IsSession}
 use Rattle.session_model.specs.State.{State, initial_state}

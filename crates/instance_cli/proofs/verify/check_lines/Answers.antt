@@ -1,4 +1,4 @@
-use Rattle.std.proofs.Common.{◌∙◌, ◌≤◌, arith, length, refl, take}
+use Rattle.std.proofs.Common.{◌∙◌, arith, refl}
 use Rattle.std.proofs.lemmas.List.{take_all}
 use Rattle.instance_cli.proofs.Walked.{halted_next, walked_next}
 use Rattle.instance_cli.proofs.verify.check_lines.Goals as goal

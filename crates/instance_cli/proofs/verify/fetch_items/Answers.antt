@@ -1,4 +1,4 @@
-use Rattle.std.proofs.Common.{ℕ, ◌≤◌, List, length, subst, sym}
+use Rattle.std.proofs.Common.{ℕ, ◌≤◌, List, length, subst}
 use Rattle.std.specs.Str.{IsUtf8}
 use Rattle.report_items.specs.declared.TheConstants.{REPORT_LIMIT}
 use Rattle.instance_cli.specs.Texts.{unmarked}

@@ -1,4 +1,4 @@
-use Rattle.std.proofs.Common.{ℕ, ◌≤◌, ◌∙◌, List, ap, inl, inr, length, refl, subst, sym}
+use Rattle.std.proofs.Common.{ℕ, ◌≤◌, ◌∙◌, List, ap, inl, length, refl, subst}
 use Rattle.std.specs.Str.{IsUtf8}
 use Rattle.outside_model.specs.declared.TheConstants.{SCRIPT_LIMIT}
 use Rattle.instance_cli.specs.Texts.{unmarked}
