@@ -1,9 +1,9 @@
 #!/usr/bin/env bash
-# Hostile sizes: time and memory at the limits. For each job its status, its last line, the processor time (user and
-# system) in seconds, and the memory held at the most in MiB.
+# Hostile sizes: time and memory at the limits. For each job its status, the last line that it wrote, the processor time
+# (user and system) in seconds, and the memory held at the most in MiB.
 #
 # `hostile.sh` does all, `hostile.sh columns cursors` these two. It needs GNU time as /usr/bin/time, 1 GiB of disk, and
-# some minutes.
+# some minutes. No job gets more than 16 GiB of address space, or as many as GIBS says.
 set -eu # and no pipefail: `yes` and `seq` are cut off by `head`
 cd "$(dirname "$0")"
 scr=$(readlink -f ../scr)
@@ -17,8 +17,11 @@ cd "$work"
 measure() {
     local what=$1 status=0 last
     shift
-    /usr/bin/time -o used.txt -f '%U %S %M' "$scr" "$@" >report.txt 2>error.txt || status=$?
-    last=$(tail -qn 1 report.txt error.txt | tail -1 | cut -c1-50)
+    (
+        ulimit -v $((${GIBS:-16} << 20))
+        exec /usr/bin/time -o used.txt -f '%U %S %M' "$scr" "$@" >report.txt 2>error.txt
+    ) || status=$?
+    last=$(tail -qn 1 error.txt report.txt | tail -1 | cut -c1-50)
     tail -1 used.txt | awk -v what="$what" -v status="$status" -v last="$last" \
         '{ printf "%-16s status %d  %7.2f s  %6.0f MiB  %s\n", what, status, $1 + $2, $3 / 1024, last }'
 }
@@ -78,8 +81,61 @@ job_cursors() {
     measure cursors run job.scr
 }
 
-for job in one_column columns quoted_cell empty_lines one_line prepares anchors cursors; do
+
+# Reports of nearly 256 MiB, for a script of three lines.
+
+# script_of_three: its one execution is by the line 3.
+script_of_three() {
+    printf 'v\n1\n5\n12\n' >t.csv
+    printf 'load t t.csv\nprepare q SELECT v FROM t WHERE v < ?\nrun q 10\n' >job.scr
+}
+
+# certified NAME: verifies a report whose one block has what comes in as its certificate.
+certified() {
+    script_of_three
+    {
+        printf '3 ran q execution 1\nplan rows(seq(t))\ncost 3298534883328\ncert '
+        cat
+        printf '\nend 0\n'
+    } >claims.txt
+    measure "$1" verify job.scr claims.txt
+}
+
+# again TEXT BYTES: the text, as often as the bytes hold it.
+again() { yes "$1" | head -n $(($2 / ${#1})) | tr -d '\n'; }
+
+job_verify_deep() { again '[' 268435300 | certified verify_deep; }
+job_verify_flat() { { printf '['; again '0,' 268435300; printf '0]'; } | certified verify_flat; }
+job_verify_objects() {
+    { printf '['; again '{"":0},' 268435300; printf '0]'; } | certified verify_objects
+}
+job_verify_cells() {
+    {
+        printf '{"kind":"optimum","least":"3298534883328","table":['
+        again '{"any":"1","set":1,"sorted":null},' 268435200
+        printf '{"any":"1","set":1,"sorted":null}]}'
+    } | certified verify_cells
+}
+job_verify_line() {
+    script_of_three
+    again 'xxxxxxxx' 268435456 >claims.txt
+    measure verify_line verify job.scr claims.txt
+}
+# The shortest line that begins an item, and the shortest that is one.
+job_verify_heads() {
+    script_of_three
+    yes '1 ran' | head -c 268435452 >claims.txt
+    measure verify_heads verify job.scr claims.txt
+}
+job_verify_too_large() {
+    script_of_three
+    yes '1 refused 12 too many rows' | head -c 268435449 >claims.txt
+    measure verify_too_large verify job.scr claims.txt
+}
+
+for job in one_column columns quoted_cell empty_lines one_line prepares anchors cursors \
+    verify_deep verify_flat verify_objects verify_cells verify_line verify_heads verify_too_large; do
     case " $* " in
-        "  " | *" $job "*) "job_$job"; rm -f t.csv job.scr report.txt ;;
+        "  " | *" $job "*) "job_$job"; rm -f t.csv job.scr claims.txt report.txt ;;
     esac
 done
