@@ -1,7 +1,8 @@
 //! Blocks: what stands between the head of an execution and the next head.
-ghost use Rattle.std.specs.Prelude.{◌≡◌, ◌∷◌, [], IfOk, MatchOption, option_map};
+ghost use Rattle.std.specs.Prelude.{◌≡◌, ◌≤◌, ◌∷◌, [], IfOk, MatchOption, length, option_map};
 ghost use Rattle.std.specs.Str.Lines.{lines};
 ghost use Rattle.report_items.specs.Blocks as blocks;
+ghost use Rattle.report_items.specs.Items.{items_in};
 
 use crate::heads::{behind, is_head};
 use crate::lines::next_line;
@@ -25,22 +26,25 @@ fn is_told(line: &str) -> bool
         || behind(line, "cert ").is_some()
 }
 
-/// The next line before the next head that begins with one of the three words, and the text behind it.
-fn next_told(text: &str) -> Option<(&str, &str)>
-    ensures { MatchOption result (blocks.told_lines (lines text.now) ≡ [])
-        (λ next. blocks.told_lines (lines text.now) ≡ next.0.now ∷ blocks.told_lines (lines next.1.now)) }
+/// The next line before the next head that begins with one of the three words, where there is one; and the text behind
+/// it, or from that head on. No item begins in what it passes over.
+fn next_told(text: &str) -> (Option<&str>, &str)
+    ensures told { MatchOption result.0 (blocks.told_lines (lines text.now) ≡ [])
+        (λ line. blocks.told_lines (lines text.now) ≡ line.now ∷ blocks.told_lines (lines result.1.now)) }
+    ensures passed { items_in (lines result.1.now) ≡ items_in (lines text.now) }
+    ensures shorter { length result.1.now ≤ length text.now }
 {
     let mut rest = text;
     while let Some((line, after)) = next_line(rest) {
         if is_head(line) {
-            return None;
-        }
-        if is_told(line) {
-            return Some((line, after));
+            return (None, rest);
         }
         rest = after;
+        if is_told(line) {
+            return (Some(line), rest);
+        }
     }
-    None
+    (None, rest)
 }
 
 /// The texts of three lines that tell a plan, a cost and a certificate in this order.
@@ -63,22 +67,30 @@ fn claim_of(alloc: Global, plan: &str, cost: &str, cert: &str) -> Result<Option<
     }))
 }
 
-/// What is claimed before the next head; none where there isn't just one line of each kind, in this order.
+/// What is claimed before the next head, none where there isn't just one line of each kind, in this order; and the text
+/// that is still to be read. No item begins in what was read.
 #[tactic(auto, unfolding(crate::specs::Blocks::claim_in))]
-pub fn claim_in(alloc: Global, text: &str) -> Result<Option<Claim>, OutOfMemory>
-    ensures { IfOk result (λ claim. claim ≡ blocks.claim_in (lines text.now)) }
+pub fn claim_in(alloc: Global, text: &str) -> Result<(Option<Claim>, &str), OutOfMemory>
+    ensures claim { IfOk result (λ read. read.0 ≡ blocks.claim_in (lines text.now)) }
+    ensures passed { IfOk result (λ read. items_in (lines read.1.now) ≡ items_in (lines text.now)) }
+    ensures shorter { IfOk result (λ read. length read.1.now ≤ length text.now) }
 {
-    let Some((plan, rest)) = next_told(text) else {
-        return Ok(None);
+    let (plan, rest) = next_told(text);
+    let Some(plan) = plan else {
+        return Ok((None, rest));
     };
-    let Some((cost, rest)) = next_told(rest) else {
-        return Ok(None);
+    let (cost, rest) = next_told(rest);
+    let Some(cost) = cost else {
+        return Ok((None, rest));
     };
-    let Some((cert, rest)) = next_told(rest) else {
-        return Ok(None);
+    let (cert, rest) = next_told(rest);
+    let Some(cert) = cert else {
+        return Ok((None, rest));
     };
-    if next_told(rest).is_some() {
-        return Ok(None);
+    let (more, rest) = next_told(rest);
+    if more.is_some() {
+        return Ok((None, rest));
     }
-    claim_of(alloc, plan, cost, cert)
+    let claim = claim_of(alloc, plan, cost, cert)?;
+    Ok((claim, rest))
 }

@@ -1,9 +1,10 @@
 //! The items of a report, in order.
-ghost use Rattle.std.specs.Prelude.{◌≡◌, IfOk};
+ghost use Rattle.std.specs.Prelude.{◌≡◌, ◌≤◌, IfOk, length};
 ghost use Rattle.std.specs.Str.Lines.{lines};
 ghost use Rattle.report_items.specs.Items as report;
+ghost use Rattle.report_items.specs.Items.{items_in};
 
-use crate::blocks::claim_in;
+use crate::blocks::{Claim, claim_in};
 use crate::heads::{Heading, heading_of, is_head, is_of_execution, too_large_in};
 use crate::lines::next_line;
 use row_values::{OutOfMemory, Words};
@@ -30,38 +31,45 @@ pub enum ReportItem {
     Broken,
 }
 
-/// The item of an execution with this head, by the text behind it.
-fn block_of(alloc: Global, heading: Heading, text: &str) -> Result<ReportItem, OutOfMemory>
-    ensures { IfOk result (λ item. item ≡ report.block_of heading (lines text.now)) }
+/// An execution with this head and this claim, which is broken where it has none.
+fn claimed(heading: Heading, claim: Option<Claim>) -> ReportItem
+    ensures { result ≡ report.claimed heading claim }
 {
-    match claim_in(alloc, text)? {
-        None => Ok(ReportItem::Broken),
-        Some(claim) => Ok(ReportItem::Block {
+    match claim {
+        None => ReportItem::Broken,
+        Some(claim) => ReportItem::Block {
             line: heading.line,
             name: heading.name,
             number: heading.number,
             plan: claim.plan,
             cost: claim.cost,
             cert: claim.cert,
-        }),
+        },
     }
 }
 
-/// The item that a head begins, by the text behind it; none where the head is of another reply.
+/// The item that a head begins, none where the head is of another reply; and the text that is still to be read.
 #[tactic(auto, unfolding(crate::specs::Items::item_at))]
-fn item_at(alloc: Global, head: &str, text: &str) -> Result<Option<ReportItem>, OutOfMemory>
-    ensures { IfOk result (λ item. item ≡ report.item_at head.now (lines text.now)) }
+fn item_at<'a>(
+    alloc: Global,
+    head: &str,
+    text: &'a str,
+) -> Result<(Option<ReportItem>, &'a str), OutOfMemory>
+    ensures item { IfOk result (λ read. read.0 ≡ report.item_at head.now (lines text.now)) }
+    ensures passed { IfOk result (λ read. items_in (lines read.1.now) ≡ items_in (lines text.now)) }
+    ensures shorter { IfOk result (λ read. length read.1.now ≤ length text.now) }
 {
     if let Some(line) = too_large_in(head) {
-        return Ok(Some(ReportItem::TooLarge { line }));
+        return Ok((Some(ReportItem::TooLarge { line }), text));
     }
     if let Some(heading) = heading_of(alloc, head)? {
-        return Ok(Some(block_of(alloc, heading, text)?));
+        let (claim, rest) = claim_in(alloc, text)?;
+        return Ok((Some(claimed(heading, claim)), rest));
     }
     if is_of_execution(head) {
-        Ok(Some(ReportItem::Broken))
+        Ok((Some(ReportItem::Broken), text))
     } else {
-        Ok(None)
+        Ok((None, text))
     }
 }
 
@@ -74,12 +82,14 @@ pub fn read_report(alloc: Global, text: &str) -> Result<Vec<ReportItem>, OutOfMe
     let mut items = Vec::new(alloc);
     let mut rest = text;
     while let Some((line, after)) = next_line(rest) {
+        rest = after;
         if is_head(line) {
-            if let Some(item) = item_at(alloc, line, after)? {
+            let (item, behind) = item_at(alloc, line, after)?;
+            if let Some(item) = item {
                 items.push(item)?;
             }
+            rest = behind;
         }
-        rest = after;
     }
     Ok(items)
 }
