@@ -1,3 +1,4 @@
 mod Cells
 mod Members
+mod Reuses
 mod Shapes

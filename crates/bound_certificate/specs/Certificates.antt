@@ -78,6 +78,12 @@ HasCosts (Cost anchor) = Unit {0}
 abbrev pub IsCertificate : Cert → Type 0
 IsCertificate cert = IsInRange cert × HasCosts cert
 
+-- the certificate names an execution, and has no costs
+abbrev pub IsReuse : Cert → Type 0
+IsReuse (Optimum potentials) = ⊥
+IsReuse (Selectivity anchor) = Unit {0}
+IsReuse (Cost anchor) = Unit {0}
+
 -- the text is JSON of this certificate, whatever its white space and the order of its members
 abbrev pub IsTextOf : Cert → List ℕ → Type 0
 IsTextOf cert text = read text ≡ Some (certificate_data cert)

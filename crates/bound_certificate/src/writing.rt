@@ -1,12 +1,12 @@
 //! Certificates written, each on one line of JSON.
-ghost use Rattle.std.specs.Prelude.{◌≡◌, IfOk, codes};
+ghost use Rattle.std.specs.Prelude.{◌≡◌, IfOk, codes, string_bytes};
 ghost use Rattle.serde_json.specs.Data.{array, member, no_members, object, string};
 ghost use Rattle.serde_json.specs.View.{view};
 ghost use Rattle.bound_certificate.specs.Certificates.{IsTextOf, cell_data, cells_data};
 ghost use Rattle.bound_certificate.specs.Certificates.{certificate_data, certificate_text, cost_data, sorted_data};
 
 use crate::certificates::Cert;
-use plan_costs::Cell;
+use plan_costs::{Cell, Potentials};
 use row_values::{OutOfMemory, Words};
 use serde_json::{Value, json};
 use std::alloc::Global;
@@ -76,36 +76,43 @@ fn optimum_object(
     Ok(value)
 }
 
-/// The optimum with these cells and this number.
-fn optimum_value(alloc: Global, cells: &[Cell], least: u128) -> Result<Value, OutOfMemory>
-    ensures { IfOk result (λ value. view value
-        ≡ certificate_data (Cert.Optimum (record { cells = cells.now; least = least }))) }
+/// An optimum as a value of JSON.
+fn optimum_value(alloc: Global, potentials: &Potentials) -> Result<Value, OutOfMemory>
+    ensures { IfOk result (λ value. view value ≡ certificate_data (Cert.Optimum potentials.now)) }
 {
     let kind = word_value(alloc, "optimum")?;
-    let least = cost_value(alloc, least)?;
-    let table = table_value(alloc, cells)?;
+    let least = cost_value(alloc, potentials.least())?;
+    let table = table_value(alloc, potentials.cells())?;
     let value = optimum_object(alloc, kind, least, table)?;
     Ok(value)
 }
 
-/// The certificate as a value of JSON.
-fn certificate_value(alloc: Global, cert: &Cert) -> Result<Value, OutOfMemory>
-    ensures { IfOk result (λ value. view value ≡ certificate_data cert.now) }
+/// An optimum on one line.
+fn optimum_text(alloc: Global, potentials: &Potentials) -> Result<String, OutOfMemory>
+    ensures value { IfOk result (λ text. string_bytes text ≡ certificate_text (Cert.Optimum potentials.now)) }
+    ensures read_again { IfOk result (λ text. IsTextOf (Cert.Optimum potentials.now) (string_bytes text)) }
 {
-    match cert {
-        Cert::Optimum(potentials) => {
-            let value = optimum_value(alloc, potentials.cells(), potentials.least())?;
-            Ok(value)
-        }
-        Cert::Selectivity(anchor) => {
-            let value = json!(in alloc; {"anchor": *anchor, "kind": "selectivity"})?;
-            Ok(value)
-        }
-        Cert::Cost(anchor) => {
-            let value = json!(in alloc; {"anchor": *anchor, "kind": "cost"})?;
-            Ok(value)
-        }
-    }
+    let value = optimum_value(alloc, potentials)?;
+    let text = value.to_string(alloc)?;
+    Ok(text)
+}
+
+/// A reuse by selectivity on one line.
+fn selectivity_text(alloc: Global, anchor: u64) -> Result<String, OutOfMemory>
+    ensures value { IfOk result (λ text. string_bytes text ≡ certificate_text (Cert.Selectivity anchor)) }
+    ensures read_again { IfOk result (λ text. IsTextOf (Cert.Selectivity anchor) (string_bytes text)) }
+{
+    let text = format!(in alloc; "{{\"anchor\":{anchor},\"kind\":\"selectivity\"}}")?;
+    Ok(text)
+}
+
+/// A reuse by cost on one line.
+fn cost_text(alloc: Global, anchor: u64) -> Result<String, OutOfMemory>
+    ensures value { IfOk result (λ text. string_bytes text ≡ certificate_text (Cert.Cost anchor)) }
+    ensures read_again { IfOk result (λ text. IsTextOf (Cert.Cost anchor) (string_bytes text)) }
+{
+    let text = format!(in alloc; "{{\"anchor\":{anchor},\"kind\":\"cost\"}}")?;
+    Ok(text)
 }
 
 /// The certificate on one line, without its end.
@@ -113,7 +120,10 @@ pub fn to_text(alloc: Global, c: &Cert) -> Result<Words, OutOfMemory>
     ensures value { IfOk result (λ text. text ≡ certificate_text c.now) }
     ensures read_again { IfOk result (λ text. IsTextOf c.now text) }
 {
-    let value = certificate_value(alloc, c)?;
-    let text = value.to_string(alloc)?;
+    let text = match c {
+        Cert::Optimum(potentials) => optimum_text(alloc, potentials)?,
+        Cert::Selectivity(anchor) => selectivity_text(alloc, *anchor)?,
+        Cert::Cost(anchor) => cost_text(alloc, *anchor)?,
+    };
     Ok(Words::from_string(text))
 }
