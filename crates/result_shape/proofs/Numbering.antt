@@ -1,7 +1,7 @@
 -- Groups by one column of numbers, once one more combination comes.
 use Rattle.std.proofs.Common.{ℕ, ℤ, suc, zero, ◌≡◌, ◌==◌, ◌<◌, ◌≤◌, ◌+◌, ◌*◌, ◌++◌, ◌⊎◌, inl, inr, Bool, true, false, List, [], ◌∷◌, length, map, get_or}
 use Rattle.std.proofs.Common.{ap, sym, ◌∙◌, refl, arith, subst, drop, length-drop, take, ◌^◌, ◌-◌}
-use Rattle.std.specs.Prelude.{All, Option, Some, None, filter, unwrap_or}
+use Rattle.std.specs.Prelude.{All, IfSome, Option, Some, None, filter, unwrap_or}
 use Rattle.std.specs.Option.{option_cmp}
 use Rattle.std.specs.Ordering.{int_cmp, is_eq}
 use Rattle.std.specs.declared.cmp.Ordering.{Ordering}
@@ -24,6 +24,7 @@ use Rattle.plan_operators.specs.declared.keys.ReadyKey.{ReadyKey}
 use Rattle.statement_meaning.specs.Meaning.{group_keys, is_same_group, keys_order}
 use Rattle.statement_meaning.specs.PartialCombinations.{is_same}
 use Rattle.statement_meaning.proofs.Groups.{same_group_equivalence}
+use Rattle.result_shape.specs.Hints.{AreHintsAt, IsHintAt}
 use Rattle.result_shape.specs.Numbered.{AreNumbered, IsMapped, IsNumberOf, number_seen, tallies_from}
 use Rattle.result_shape.specs.Tallies.{AreTalliesOf, HasRoom, IsTallyOf}
 use Rattle.result_shape.specs.declared.numbered.NumberColumn.{NumberColumn}
@@ -31,6 +32,8 @@ use Rattle.result_shape.proofs.GrowingGroups.{kept_few, more_members, no_members
 use Rattle.result_shape.proofs.GrowingGroups.{same_members}
 use Rattle.result_shape.proofs.Shapes.{ShowsGroup}
 use Rattle.result_shape.proofs.Tallying.{tally_room}
+use Rattle.result_shape.specs.declared.hints.Hint.{Hint}
+use Rattle.result_shape.specs.declared.hints.Hints.{Hints}
 use Rattle.result_shape.specs.declared.numbered.Placed.{Placed}
 use Rattle.result_shape.specs.declared.tallies.ReadyItem.{ReadyItem}
 use Rattle.result_shape.specs.declared.tallies.Tally.{Tally}
@@ -107,7 +110,8 @@ module _ (q : Statement) (tables : List (List (List Value))) (keys : List ReadyK
         by_test false e = e
         by_test true e =
             absurd (n (some_same i p (sym (m.all i d l)
-            ∙ (ap (λ (o : Option ℤ). get (option_cmp int_cmp) positions o) (equal_numbers (get_or firsts i d) c e) ∙ g))))
+            ∙ (ap (λ (o : Option ℤ). get (option_cmp int_cmp) positions o)
+            (equal_numbers (get_or firsts i d) c e) ∙ g))))
 
     pub none_apart : get (option_cmp int_cmp) positions (seen c) ≡ None → All (λ f. same f c ≡ false) firsts
     none_apart g = λ i d l. by_test i d l (same (get_or firsts i d) c) refl
@@ -117,7 +121,8 @@ module _ (q : Statement) (tables : List (List (List Value))) (keys : List ReadyK
         by_test i d l false e = e
         by_test i d l true e =
             absurd (not_none i (sym (m.all i d l)
-            ∙ (ap (λ (o : Option ℤ). get (option_cmp int_cmp) positions o) (equal_numbers (get_or firsts i d) c e) ∙ g)))
+            ∙ (ap (λ (o : Option ℤ). get (option_cmp int_cmp) positions o)
+            (equal_numbers (get_or firsts i d) c e) ∙ g)))
 
     -- one more member of the group at this position
     pub numbered_grows : (p : ℕ) → get (option_cmp int_cmp) positions (seen c) ≡ Some p
@@ -172,7 +177,8 @@ module _ (q : Statement) (tables : List (List (List Value))) (keys : List ReadyK
     numbered_nothing g h ts a = none_there tables q h firsts c a.heads_are (none_apart g)
 
     -- the first member of a group that isn't there
-    pub numbered_begins : get (option_cmp int_cmp) positions (seen c) ≡ None → (h : List (List ℕ)) (ts made : List Tally)
+    pub numbered_begins : get (option_cmp int_cmp) positions (seen c) ≡ None
+        → (h : List (List ℕ)) (ts made : List Tally)
         → AreNumbered q tables h firsts ts → AreTalliesOf tables c (c ∷ []) q.items made
         → AreNumbered q tables (h ++ c ∷ []) (firsts ++ c ∷ []) (ts ++ made)
     numbered_begins g h ts made a begun = record {
@@ -225,8 +231,8 @@ module _ (q : Statement) (tables : List (List (List Value))) (keys : List ReadyK
         by_place i k d item e lk (inl li) =
             let before : i * length q.items + k < length ts =
             omega (arith, range_inside (length q.items) i (length firsts) li, lk, a.whole) in
-            subst (λ (first : List ℕ). IsTallyOf tables first (filter (same first) (h ++ c ∷ [])) (get_or q.items k item)
-            (get_or (ts ++ made) (i * length q.items + k) e))
+            subst (λ (first : List ℕ). IsTallyOf tables first (filter (same first) (h ++ c ∷ []))
+            (get_or q.items k item) (get_or (ts ++ made) (i * length q.items + k) e))
             (sym (get_or_append_left firsts (c ∷ []) d i li))
             (subst (λ (ms : List (List ℕ)). IsTallyOf tables (get_or firsts i d) ms (get_or q.items k item)
             (get_or (ts ++ made) (i * length q.items + k) e))
@@ -238,8 +244,8 @@ module _ (q : Statement) (tables : List (List (List Value))) (keys : List ReadyK
         by_place i k d item e lk (inr is) =
             let at : i * length q.items + k ≡ length ts + k =
             ap (λ (n : ℕ). n + k) (ap (λ (j : ℕ). j * length q.items) is ∙ sym a.whole) in
-            subst (λ (first : List ℕ). IsTallyOf tables first (filter (same first) (h ++ c ∷ [])) (get_or q.items k item)
-            (get_or (ts ++ made) (i * length q.items + k) e))
+            subst (λ (first : List ℕ). IsTallyOf tables first (filter (same first) (h ++ c ∷ []))
+            (get_or q.items k item) (get_or (ts ++ made) (i * length q.items + k) e))
             (sym (get_or_push firsts c d i (sym is)))
             (subst (λ (ms : List (List ℕ)). IsTallyOf tables c ms (get_or q.items k item)
             (get_or (ts ++ made) (i * length q.items + k) e)) (sym alone)
@@ -271,7 +277,8 @@ mapped_begins column positions more firsts c m g u = record {
     all_of : (i : ℕ) (d : List ℕ) → (i < length firsts) ⊎ (i ≡ length firsts)
         → get (option_cmp int_cmp) more (number_seen column (get_or (firsts ++ c ∷ []) i d)) ≡ Some i
     all_of i d (inl l) =
-        ap (λ (f : List ℕ). get (option_cmp int_cmp) more (number_seen column f)) (get_or_append_left firsts (c ∷ []) d i l)
+        ap (λ (f : List ℕ). get (option_cmp int_cmp) more (number_seen column f))
+        (get_or_append_left firsts (c ∷ []) d i l)
         ∙ by_test (is_eq (option_cmp int_cmp (number_seen column c) (number_seen column (get_or firsts i d)))) refl
       where
         by_test : (b : Bool)
@@ -303,6 +310,25 @@ mapped_begins column positions more firsts c m g u = record {
           omega (arith, l, length_push firsts c),
           λ d. ap (number_seen column) (get_or_append_left firsts (c ∷ []) d i l) ∙ m.own n i d old,
         )
+
+-- a hint stays an entry, since the number that comes was not there
+pub hints_stay : (positions more : BTreeMap (Option ℤ) ℕ) (number : Option ℤ) (position : ℕ) (hints : Hints)
+    → AreHintsAt positions hints → get (option_cmp int_cmp) positions number ≡ None
+    → Updates (option_cmp int_cmp) positions more number (Some position)
+    → AreHintsAt more hints
+hints_stay positions more number position hints entries g u =
+    λ i d l. stays (get_or hints.slots i d) (entries i d l)
+  where
+    by_test : (hint : Hint) → IsHintAt positions hint → (b : Bool)
+        → is_eq (option_cmp int_cmp number (Some hint.number)) ≡ b → IsHintAt more hint
+    by_test hint e true t =
+        absurd (not_none hint.position (sym e ∙ (ap (λ (o : Option ℤ). get (option_cmp int_cmp) positions o)
+        (sym (same_number number (Some hint.number) t)) ∙ g)))
+    by_test hint e false t = u.2 (Some hint.number) t ∙ e
+
+    stays : (slot : Option Hint) → IfSome slot (IsHintAt positions) → IfSome slot (IsHintAt more)
+    stays None t = t
+    stays (Some hint) e = by_test hint e (is_eq (option_cmp int_cmp number (Some hint.number))) refl
 
 -- the tallies of one more group
 pub grown_whole : (firsts : List (List ℕ)) (c : List ℕ) (ts made : List Tally) (count : ℕ)

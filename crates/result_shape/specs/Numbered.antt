@@ -11,6 +11,7 @@ use Rattle.plan_operators.specs.Keys.{keys_rank}
 use Rattle.plan_operators.specs.declared.keys.ReadyKey.{ReadyKey}
 use Rattle.statement_meaning.specs.Meaning.{is_same_group}
 use Rattle.statement_meaning.specs.PartialCombinations.{is_same}
+use Rattle.result_shape.specs.Hints.{AreHintsAt}
 use Rattle.result_shape.specs.Tallies.{HasRoom, IsTallyOf}
 use Rattle.result_shape.specs.declared.numbered.NumberColumn.{NumberColumn}
 use Rattle.result_shape.specs.declared.numbered.NumberGroups.{NumberGroups}
@@ -48,10 +49,11 @@ pub record AreNumbered (q : Statement) (tables : List (List (List Value))) (h fi
       (filter (is_same_group tables q.groups (slice_index_or firsts i d)) h) (slice_index_or q.items k item)
       (slice_index_or tallies (i * length q.items + k) e)
 
--- groups whose tallies are as many as there are items in each
+-- groups whose tallies are as many as there are items in each, and whose hints are true
 pub record AreWhole (count : ℕ) (groups : NumberGroups) : Type 0 where
   pub mapped : IsMapped groups.column groups.positions groups.firsts.items
   pub whole : length groups.tallies.items ≡ length groups.firsts.items * count
+  pub hinted : AreHintsAt groups.positions groups.hints
 
 -- each tally of each group has room for one more
 abbrev pub HaveRoom : ℕ → NumberGroups → Type 0

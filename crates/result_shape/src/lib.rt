@@ -6,6 +6,7 @@
 
 mod groups;
 mod heads;
+mod hints;
 mod numbered;
 mod row_texts;
 mod rows;

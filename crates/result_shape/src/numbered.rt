@@ -1,8 +1,8 @@
 //! Groups by one column of whole numbers.
 //!
 //! A map has the position of the group of each number, in its order: keys that a stranger chose cost
-//! no more comparisons than any others. The tallies of all groups stand in one list, so that a group
-//! takes no memory of its own. The way in is `take_in`.
+//! no more comparisons than any others. Hints spare most look-ups in it. The tallies of all groups
+//! stand in one list, so that a group takes no memory of its own. The way in is `take_in`.
 ghost use Rattle.std.specs.Prelude.{◌≡◌, ◌<◌, ◌≤◌, ◌+◌, ◌*◌, ◌++◌, ◌∷◌, ◌⊎◌, [], ℕ, List, All, IfOk, IfSome, IsPermutation, OnErr, OnOk};
 ghost use Rattle.std.specs.Prelude.{None, drop, false, length, map, slice_index_or, take};
 ghost use Rattle.std.specs.BTreeMap.{get};
@@ -16,6 +16,7 @@ ghost use Rattle.result_shape.specs.Groups.{AreReadyFor};
 ghost use Rattle.result_shape.specs.Numbered.{AreNumbered, AreWhole, HaveRoom, IsNumberOf, number_seen};
 ghost use Rattle.result_shape.specs.Tallies.{HasRoom, IsReadyItem, IsTallyOf};
 
+use crate::hints::{Hints, position_of};
 use crate::tallies::{ReadyItem, Tally, first_tallies, more_tally};
 use plan_operators::{ColumnCells, Combo, ReadyKey};
 use row_values::OutOfMemory;
@@ -35,6 +36,7 @@ pub struct NumberColumn<'a> {
 pub struct NumberGroups<'a> {
     pub(crate) column: NumberColumn<'a>,
     pub(crate) positions: BTreeMap<Option<i64>, usize>,
+    pub(crate) hints: Hints,
     pub(crate) firsts: Vec<Combo>,
     pub(crate) tallies: Vec<Tally>,
 }
@@ -113,6 +115,7 @@ impl<'a> NumberGroups<'a> {
         NumberGroups {
             column,
             positions: BTreeMap::new(alloc),
+            hints: Hints::new(),
             firsts: Vec::new(alloc),
             tallies: Vec::new(alloc),
         }
@@ -165,7 +168,7 @@ impl<'a> NumberGroups<'a> {
             → OnErr result (All (λ member. is_same_group tables q.groups member c.now ≡ false) h) }
     {
         let number = self.column.number(c);
-        match self.positions.get(&number).copied() {
+        match position_of(&self.positions, &mut self.hints, number) {
             Some(position) => {
                 let start = position * items.len();
                 add_member_at(items, &mut self.tallies, start, c);

@@ -101,7 +101,7 @@ fn plus(number: i128, more: i64) -> i128
 }
 
 /// The number of a tally once a combination is counted, or its whole number added.
-#[inline]
+#[inline(always)]
 fn more_number(ready: &ReadyItem<'_>, number: i128, c: &Combo) -> i128
     requires low { pos 0 ≤ℤ (number +ℤ pos (2 ^ 126)) }
     requires high { number ≤ℤ pos (2 ^ 126) }
@@ -118,8 +118,9 @@ fn more_number(ready: &ReadyItem<'_>, number: i128, c: &Combo) -> i128
     }
 }
 
-/// The row of the lesser of two cells of a column; of the first where they tie.
-#[inline]
+/// The row of the lesser of two cells of a column; of the first where they tie. It stands apart, so
+/// that what takes a member in stays short.
+#[inline(never)]
 fn lesser_row(column: &PlaceColumn<'_>, row: u32, other: u32) -> u32
     ensures { cell_read column.now.cells result
         ≡ (if is_lt (cell_order (cell_read column.now.cells other) (cell_read column.now.cells row))
@@ -133,7 +134,7 @@ fn lesser_row(column: &PlaceColumn<'_>, row: u32, other: u32) -> u32
 }
 
 /// The row of the greater of two cells, likewise.
-#[inline]
+#[inline(never)]
 fn greater_row(column: &PlaceColumn<'_>, row: u32, other: u32) -> u32
     ensures { cell_read column.now.cells result
         ≡ (if is_lt (cell_order (cell_read column.now.cells row) (cell_read column.now.cells other))
@@ -147,7 +148,7 @@ fn greater_row(column: &PlaceColumn<'_>, row: u32, other: u32) -> u32
 }
 
 /// The row of the cell that a tally keeps once a combination is taken in.
-#[inline]
+#[inline(always)]
 fn more_row(ready: &ReadyItem<'_>, at: ColRef, row: u32, c: &Combo) -> u32
     ensures { (tables : List (List (List Cells))) (first : List ℕ) (members : List (List ℕ))
         → IsReadyItem tables ready.now → IsTallyOf tables first members ready.now.item (Tally.Cell at row)
@@ -162,8 +163,9 @@ fn more_row(ready: &ReadyItem<'_>, at: ColRef, row: u32, c: &Combo) -> u32
     }
 }
 
-/// The tally once one more member of its group is taken in.
-#[inline]
+/// The tally once one more member of its group is taken in. It is always inlined: a tally that a
+/// call gave was written in parts and is then copied whole, and the copy waits for each part.
+#[inline(always)]
 pub(crate) fn more_tally(ready: &ReadyItem<'_>, tally: Tally, c: &Combo) -> Tally
     requires { HasRoom tally }
     ensures { (tables : List (List (List Cells))) (first : List ℕ) (members : List (List ℕ))

@@ -3,7 +3,8 @@ use Rattle.std.specs.BTreeMap.{Updates}
 use Rattle.std.specs.Option.{option_cmp}
 use Rattle.std.specs.Ordering.{int_cmp}
 use Rattle.std.specs.Prelude.{Option, Some}
-use Rattle.result_shape.proofs.Numbering.{grown_whole, mapped_begins, numbered_begins}
+use Rattle.result_shape.specs.Numbered.{number_seen}
+use Rattle.result_shape.proofs.Numbering.{grown_whole, hints_stay, mapped_begins, numbered_begins}
 use Rattle.result_shape.proofs.numbered.NumberGroups.begin.Goals as goal
 
 pub returns-clause-begun : goal.returns-clause-begun
@@ -34,4 +35,7 @@ returns-clause-whole c =
           rw (c.in_ok-push.ensures.items, c.in_ok-extend_from_slice.ensures.items, c.deref.ensures.value)
           (grown_whole c.args.self.now.firsts.items c.args.c.now c.args.self.now.tallies.items c.in_ok-made.made.items
           (length c.args.items.now) c.requires.whole.whole c.in_ok-made.ensures.count);
+      hinted =
+          hints_stay c.args.self.now.positions c.insert.new.self (number_seen c.args.self.now.column c.args.c.now)
+          (length c.args.self.now.firsts.items) c.args.self.now.hints c.requires.whole.hinted absent updates;
     }

@@ -11,29 +11,31 @@ use Rattle.result_shape.proofs.numbered.NumberGroups.take_in.Goals as goal
 
 pub overflow_mul-start : goal.overflow_mul-start
 overflow_mul-start c =
-    let found = sym c.get.ensures.value ∙ (sym c.copied.ensures ∙ c.in-Some.is) in
+    let found = sym c.position_of.ensures.value ∙ c.in-Some.is in
     let there = c.requires.whole.mapped.inside c.number-number.result c.in-Some.position found in
-    let within = range_inside (length c.args.items.now) c.in-Some.position (length c.args.self.now.firsts.items) there in
+    let within = range_inside (length c.args.items.now) c.in-Some.position (length c.args.self.now.firsts.items) there
+    in
     record { fits = omega (arith, within, c.requires.whole.whole, c.args.self.now.tallies.small) }
 
 pub add_member_at-requires-clause-bound : goal.add_member_at-requires-clause-bound
 add_member_at-requires-clause-bound c =
-    let found = sym c.get.ensures.value ∙ (sym c.copied.ensures ∙ c.in-Some.is) in
+    let found = sym c.position_of.ensures.value ∙ c.in-Some.is in
     let there = c.requires.whole.mapped.inside c.number-number.result c.in-Some.position found in
-    let within = range_inside (length c.args.items.now) c.in-Some.position (length c.args.self.now.firsts.items) there in
+    let within = range_inside (length c.args.items.now) c.in-Some.position (length c.args.self.now.firsts.items) there
+    in
     let whole = ap length c.deref_mut.ensures.value ∙ c.requires.whole.whole in
     omega (arith, within, whole)
 
 pub add_member_at-requires-clause-room : goal.add_member_at-requires-clause-room
 add_member_at-requires-clause-room c =
-    let found = sym c.get.ensures.value ∙ (sym c.copied.ensures ∙ c.in-Some.is) in
+    let found = sym c.position_of.ensures.value ∙ c.in-Some.is in
     let there = c.requires.whole.mapped.inside c.number-number.result c.in-Some.position found in
     rw c.deref_mut.ensures.value (λ k e l. c.requires.room c.in-Some.position k e there l)
 
 pub returns-in-Some-clause-taken : goal.returns-in-Some-clause-taken
 returns-in-Some-clause-taken c =
     λ q tables h keys ready number a.
-    let found = rw c.number-number.ensures at (sym c.get.ensures.value ∙ (sym c.copied.ensures ∙ c.in-Some.is)) in
+    let found = rw c.number-number.ensures at (sym c.position_of.ensures.value ∙ c.in-Some.is) in
     let count : length c.args.items.now ≡ length q.items =
     sym (length-map c.args.items.now (λ (one : ReadyItem). one.item)) ∙ ap (λ (items : List Item). length items)
     ready.items_are in
@@ -63,7 +65,7 @@ returns-in-Some-clause-taken c =
 pub returns-in-None-clause-memory : goal.returns-in-None-clause-memory
 returns-in-None-clause-memory c =
     λ q tables h keys ready number a.
-    let absent = rw c.number-number.ensures at (sym c.get.ensures.value ∙ (sym c.copied.ensures ∙ c.in-None.is)) in
+    let absent = rw c.number-number.ensures at (sym c.position_of.ensures.value ∙ c.in-None.is) in
     on_err _ _ (numbered_nothing q tables keys c.args.self.now.column ready.keys_are number
     c.args.self.now.positions c.args.self.now.firsts.items c.requires.whole.mapped c.args.c.now absent h
     c.args.self.now.tallies.items a)
