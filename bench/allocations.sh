@@ -4,7 +4,7 @@
 # A small allocator is built and preloaded that refuses the Nth request. The program then has to end with status 6,
 # `scr: out of memory` and the beginning of what it writes: of a report up to a whole reply, of the line of `verify` and
 # of the counts of `demo` nothing. Or, where it can do without, with all that it writes and its own status.
-# `allocations.sh 500` makes 500 runs of a job at most, spread over its requests.
+# `allocations.sh 500` makes fewer than 1,000 runs of a job, spread over its requests.
 set -eu
 cd "$(dirname "$0")"
 work=$(mktemp -d)
