@@ -1,4 +1,5 @@
 mod Cells
 mod Members
+mod Numerals
 mod Reuses
 mod Shapes

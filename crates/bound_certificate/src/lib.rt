@@ -5,10 +5,12 @@
 #![tactic(auto)]
 
 mod certificates;
+mod numbers;
 mod reading;
 mod writing;
 
 pub use certificates::{CELL_LIMIT, Cert, CertFault, EXECUTION_LIMIT};
+pub use numbers::number_spelled;
 pub use reading::from_text;
 pub use writing::to_text;
 

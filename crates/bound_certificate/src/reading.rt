@@ -1,8 +1,8 @@
 //! Certificates read, from any text of the JSON value that is written.
 //!
 //! What the text may be is taken from its members, and written again: it is a certificate where that gives the value
-//! that was read. So no member more, no set out of order and no leading zero gets through. A reuse that is spelled as it
-//! is written is found before that, by writing it.
+//! that was read. So no member more, no set out of order and no leading zero gets through. A reuse that stands as it is
+//! written is known by that alone.
 ghost use Rattle.std.specs.Prelude.{ℕ, List, ◌≡◌, ◌≤◌, ◌<◌, ◌^◌, ◌↔◌, All, IfOk, IfSome, IsTrue, Err, Option, Some};
 ghost use Rattle.std.specs.Prelude.{codes, option_and_then};
 ghost use Rattle.serde_json.specs.Find.{as_str, get};
@@ -12,13 +12,14 @@ ghost use Rattle.serde_json.specs.Read.{max_depth};
 ghost use Rattle.serde_json.specs.View.{items_view, view};
 ghost use Rattle.plan_costs.specs.LowerBounds.{LowerBounds};
 ghost use Rattle.plan_costs.specs.declared.potentials.Cell.{Cell as ACell};
-ghost use Rattle.bound_certificate.specs.Certificates.{HasCosts, IsCell, IsCertificate, IsInRange, IsReuse, IsTextOf};
+ghost use Rattle.bound_certificate.specs.Certificates.{HasCosts, IsCell, IsCertificate, IsReuse, IsTextOf};
 ghost use Rattle.bound_certificate.specs.Certificates.{anchor_data};
 ghost use Rattle.bound_certificate.specs.Certificates.{cell_data, cells_data, certificate_data, cost_data, sorted_data};
 ghost use Rattle.bound_certificate.specs.declared.certificates.Cert.{Cert as ACert};
 ghost use Rattle.bound_certificate.specs.declared.certificates.CertFault.TheVariants.{NotACert};
 
 use crate::certificates::{Cert, CertFault, is_in_range};
+use crate::numbers::number_spelled;
 use crate::writing::to_text;
 use plan_costs::{Cell, Potentials};
 use row_values::OutOfMemory;
@@ -178,33 +179,18 @@ fn is_written_as(alloc: Global, cert: &Cert, value: &Value) -> Result<bool, OutO
     Ok(wanted.as_str() == found.as_str())
 }
 
-/// The reuse that the text may be, as it is written.
-fn guessed_reuse(text: &str) -> Option<Cert>
-    ensures { IfSome result IsReuse }
+/// The reuse that the text is, where it stands as it is written: most certificates do, and take no reading of JSON.
+fn written_reuse(text: &str) -> Option<Cert>
+    ensures { IfSome result (λ cert. IsReuse cert × IsTextOf cert text.now) }
 {
     let rest = text.strip_prefix("{\"anchor\":")?;
-    let (digits, kind) = rest.split_once(',')?;
-    let anchor = digits.parse::<u64>().ok()?;
-    match kind {
-        "\"kind\":\"selectivity\"}" => Some(Cert::Selectivity(anchor)),
-        "\"kind\":\"cost\"}" => Some(Cert::Cost(anchor)),
-        _ => None,
+    if let Some(digits) = rest.strip_suffix(",\"kind\":\"selectivity\"}") {
+        let anchor = number_spelled(digits)?;
+        return Some(Cert::Selectivity(anchor));
     }
-}
-
-/// The reuse that the text is, where it is written just so: most certificates are, and take no reading of JSON.
-fn written_reuse(alloc: Global, text: &str) -> Result<Option<Cert>, OutOfMemory>
-    ensures { IfOk result (λ found. IfSome found (λ cert. IsReuse cert × IsInRange cert × IsTextOf cert text.now)) }
-{
-    let Some(cert) = guessed_reuse(text) else {
-        return Ok(None);
-    };
-    let written = to_text(alloc, &cert)?;
-    if is_in_range(&cert) && written.as_str() == text {
-        Ok(Some(cert))
-    } else {
-        Ok(None)
-    }
+    let digits = rest.strip_suffix(",\"kind\":\"cost\"}")?;
+    let anchor = number_spelled(digits)?;
+    Some(Cert::Cost(anchor))
 }
 
 /// The certificate that the text is.
@@ -213,8 +199,10 @@ pub fn from_text(alloc: Global, text: &str) -> Result<Cert, CertFault>
     ensures only { IfOk result (λ found. (cert : ACert) → IsCertificate cert → IsTextOf cert text.now → found ≡ cert) }
     ensures not_a_cert { result ≡ Err NotACert → (cert : ACert) → IsCertificate cert → ¬ IsTextOf cert text.now }
 {
-    if let Some(cert) = written_reuse(alloc, text)? {
-        return Ok(cert);
+    if let Some(cert) = written_reuse(text) {
+        if is_in_range(&cert) {
+            return Ok(cert);
+        }
     }
     let value = match Value::from_str(alloc, text) {
         Ok(value) => value,

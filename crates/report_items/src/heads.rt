@@ -1,8 +1,9 @@
 //! Heads: the lines that begin with a digit. A head begins with the number of a script line.
 ghost use Rattle.std.specs.Prelude.{◌≡◌, IfOk, option_map};
+ghost use Rattle.row_values.specs.Names.{canonical_name};
 ghost use Rattle.report_items.specs.Heads as heads;
 
-use row_values::{OutOfMemory, Words, canonical_name, whole_number};
+use row_values::{OutOfMemory, Words, canonical_name, is_plain_name, whole_number};
 use sql_parser::{Token, take_token};
 use std::alloc::Global;
 
@@ -84,6 +85,18 @@ fn numbered(head: &str) -> Option<(u64, &str)>
     Some((number_of(digits)?, rest))
 }
 
+/// What stands behind the canonical spelling of the name, where the text begins with it.
+fn behind_name<'a>(alloc: Global, text: &'a str, name: &str) -> Result<Option<&'a str>, OutOfMemory>
+    ensures { IfOk result (λ found. option_map (λ rest. rest.now) found
+        ≡ heads.behind (canonical_name name.now) text.now) }
+{
+    if is_plain_name(name) {
+        return Ok(behind(text, name));
+    }
+    let spelled = canonical_name(alloc, name)?;
+    Ok(behind(text, spelled.as_str()))
+}
+
 /// The name whose canonical spelling stands at the front, and what stands behind it.
 #[tactic(auto, unfolding(crate::specs::Heads::name_at))]
 fn name_at(alloc: Global, text: &str) -> Result<Option<(Words, &str)>, OutOfMemory>
@@ -95,8 +108,7 @@ fn name_at(alloc: Global, text: &str) -> Result<Option<(Words, &str)>, OutOfMemo
     let Token::Name(name) = token else {
         return Ok(None);
     };
-    let spelled = canonical_name(alloc, name.as_str())?;
-    match behind(text, spelled.as_str()) {
+    match behind_name(alloc, text, name.as_str())? {
         Some(rest) => Ok(Some((name, rest))),
         None => Ok(None),
     }

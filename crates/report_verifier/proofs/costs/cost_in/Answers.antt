@@ -4,10 +4,10 @@ use Rattle.std.proofs.lemmas.Fmt.{parse-decimal_wide}
 use Rattle.std.proofs.lemmas.Slice.Eq.{bytes_eq-Decides}
 use Rattle.report_verifier.proofs.costs.cost_in.Goals as goal
 
-pub returns-in_default-clause-none : goal.returns-in_default-clause-none
-returns-in_default-clause-none c = λ cost h.
+pub returns-in_default-parse-clause-none : goal.returns-in_default-parse-clause-none
+returns-in_default-parse-clause-none c = λ cost h.
     let few : cost < 10 ^ 64 = let small : cost < 2 ^ 128 = h.small in omega arith in
-    c.in_default.not-Ok cost
+    c.in_default-parse.not-Ok cost
     (parse-decimal_wide 128 cost c.args.text.now c.parse.result h.small few h.spelled c.parse.ensures.value.0)
 
 pub returns-clause-none : goal.returns-clause-none
