@@ -26,6 +26,9 @@ measure() {
         '{ printf "%-16s status %d  %7.2f s  %6.0f MiB  %s\n", what, status, $1 + $2, $3 / 1024, last }'
 }
 
+# again TEXT BYTES: the text, as often as the bytes hold it.
+again() { yes "$1" | head -n $(($2 / ${#1})) | tr -d '\n'; }
+
 # filled HEADER LINE ROWS: a table whose rows are one line, as often as 64 MiB hold it, and ROWS times at most.
 filled() {
     local fit=$(((67108864 - ${#1} - 1) / (${#2} + 1)))
@@ -55,6 +58,31 @@ job_prepares() {
         seq 1000000 | sed 's/.*/prepare p& SELECT v FROM t WHERE v < ?/' | head -c 16777000 | sed '$d'
     } >job.scr
     measure prepares run job.scr
+}
+# Statements on one line of nearly 16 MiB: an IN of 8,000,000 operands, and as many places.
+job_operands() {
+    printf 'v\n1\n' >t.csv
+    {
+        printf 'load t t.csv\nprepare q SELECT v FROM t WHERE v IN (1'
+        again ',1' 16000000
+        echo ')'
+    } >job.scr
+    measure operands run job.scr
+}
+job_places() {
+    printf 'v\n1\n' >t.csv
+    { printf 'load t t.csv\nprepare q SELECT v FROM t'; again ',t' 16000000; echo; } >job.scr
+    measure places run job.scr
+}
+# 40,000 places with aliases that differ: each is compared with all before it.
+job_aliases() {
+    printf 'v\n1\n' >t.csv
+    {
+        printf 'load t t.csv\nprepare q SELECT v FROM t'
+        seq 40000 | sed 's/.*/,t a&/' | tr -d '\n'
+        echo
+    } >job.scr
+    measure aliases run job.scr
 }
 # 4,096 anchors on each of 16 statements: at lambda 1 each run searches, and is kept as an anchor. With STATEMENTS=256 the
 # script is 14 MiB.
@@ -101,9 +129,6 @@ certified() {
     measure "$1" verify job.scr claims.txt
 }
 
-# again TEXT BYTES: the text, as often as the bytes hold it.
-again() { yes "$1" | head -n $(($2 / ${#1})) | tr -d '\n'; }
-
 job_verify_deep() { again '[' 268435300 | certified verify_deep; }
 job_verify_flat() { { printf '['; again '0,' 268435300; printf '0]'; } | certified verify_flat; }
 job_verify_objects() {
@@ -133,7 +158,7 @@ job_verify_too_large() {
     measure verify_too_large verify job.scr claims.txt
 }
 
-for job in one_column columns quoted_cell empty_lines one_line prepares anchors cursors \
+for job in one_column columns quoted_cell empty_lines one_line prepares operands places aliases anchors cursors \
     verify_deep verify_flat verify_objects verify_cells verify_line verify_heads verify_too_large; do
     case " $* " in
         "  " | *" $job "*) "job_$job"; rm -f t.csv job.scr claims.txt report.txt ;;
