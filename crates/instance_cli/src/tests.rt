@@ -981,6 +981,84 @@ fn faults(rt: HostRuntime) -> Result<(), Fail> {
     Ok(())
 }
 
+/// A shelf with a script whose cursor outlives an eviction and a load, and its tables.
+fn cursor_shelf(alloc: Global) -> Result<MemShelf, OutOfMemory> {
+    let mut shelf = MemShelf::new(alloc);
+    let script = "load t t.csv\nprepare q SELECT v FROM t WHERE v < ?\ncursor c q 10\nfetch c 1\nevict q 1\n\
+         load t t2.csv\nfetch c 5\nfetch c 5\nclose c\nfetch c 1\n";
+    shelf.put_file("a.scr", script.as_bytes())?;
+    shelf.put_file("t.csv", b"v\n1\n5\n12\n")?;
+    shelf.put_file("t2.csv", b"v\n7\n")?;
+    Ok(shelf)
+}
+
+/// How many bytes each reply of a report has.
+fn reply_lengths(alloc: Global, report: &str) -> Result<Vec<usize>, OutOfMemory> {
+    let mut lengths = Vec::new(alloc);
+    let mut length: usize = 0;
+    for line in report.lines() {
+        let is_head = match line.as_bytes() {
+            [] => false,
+            [byte, ..] => byte.is_ascii_digit(),
+        };
+        if is_head && length > 0 {
+            lengths.push(length)?;
+            length = 0;
+        }
+        length = length.wrapping_add(line.len()).wrapping_add(1);
+    }
+    lengths.push(length)?;
+    Ok(lengths)
+}
+
+/// Whether the put of this number that fails after so many bytes ends that job with a write fault, and so many bytes of
+/// the report written.
+fn put_fails(
+    alloc: Global,
+    report: &str,
+    call: u64,
+    takes: usize,
+    written: usize,
+) -> Result<bool, OutOfMemory> {
+    let mut shelf = cursor_shelf(alloc)?;
+    let mut sink = MemSink::new(alloc);
+    sink.fail_at(call, takes)?;
+    let words = run_words(alloc, "a.scr")?;
+    let status = scr(alloc, words.as_slice(), &mut shelf, &mut sink);
+    let taken = sink.taken();
+    Ok(status == Status::WriteFault
+        && taken.len() == written
+        && report.as_bytes().starts_with(taken))
+}
+
+#[test]
+fn each_put_fails_in_turn(rt: HostRuntime) -> Result<(), Fail> {
+    let mut shelf = cursor_shelf(rt.alloc())?;
+    let mut sink = MemSink::new(rt.alloc());
+    let words = run_words(rt.alloc(), "a.scr")?;
+    let status = scr(rt.alloc(), words.as_slice(), &mut shelf, &mut sink);
+    assert!(rt;
+        status == Status::DoneRefused && shelf.calls() == 3,
+        "the script and two tables are fetched"
+    );
+    let report = str::from_utf8(sink.taken()).map_err(|_| Fail::from("no text"))?;
+    let lengths = reply_lengths(rt.alloc(), report)?;
+    assert_eq!(rt; lengths.len(), 10, "each line has a reply");
+    let mut before: usize = 0;
+    for (i, length) in lengths.iter().enumerate() {
+        let call = (i as u64).wrapping_add(1);
+        for takes in 0..3 {
+            let written = before.wrapping_add(takes);
+            assert!(rt;
+                put_fails(rt.alloc(), report, call, takes, written)?,
+                "put {call} after {takes} bytes"
+            );
+        }
+        before = before.wrapping_add(*length);
+    }
+    Ok(())
+}
+
 /// Whether the job over a load, a preparation and a run ends so and writes this first, where the table's file has these
 /// bytes.
 fn begins_with(

@@ -212,6 +212,15 @@ fn texts_that_are_not_verified(rt: HostRuntime) -> Result<(), Fail> {
     Ok(())
 }
 
+#[test]
+fn a_report_above_its_limit(rt: HostRuntime) -> Result<(), Fail> {
+    let long = vec![in rt.alloc(); b'\n'; 268435457]?;
+    let script = Some(SCRIPT.as_bytes());
+    let (status, unwritten) = ends_unwritten(rt.alloc(), script, Some(long.as_slice()), None)?;
+    assert!(rt; status == Status::TooLong && unwritten);
+    Ok(())
+}
+
 /// Whether the put of the one line that fails after so many bytes ends the job with a write fault, and this written.
 fn line_fails(alloc: Global, takes: usize, written: &str) -> Result<bool, OutOfMemory> {
     let mut shelf = MemShelf::new(alloc);
