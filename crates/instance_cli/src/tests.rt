@@ -984,7 +984,8 @@ fn faults(rt: HostRuntime) -> Result<(), Fail> {
 /// A shelf with a script whose cursor outlives an eviction and a load, and its tables.
 fn cursor_shelf(alloc: Global) -> Result<MemShelf, OutOfMemory> {
     let mut shelf = MemShelf::new(alloc);
-    let script = "load t t.csv\nprepare q SELECT v FROM t WHERE v < ?\ncursor c q 10\nfetch c 1\nevict q 1\n\
+    let script =
+        "load t t.csv\nprepare q SELECT v FROM t WHERE v < ?\ncursor c q 10\nfetch c 1\nevict q 1\n\
          load t t2.csv\nfetch c 5\nfetch c 5\nclose c\nfetch c 1\n";
     shelf.put_file("a.scr", script.as_bytes())?;
     shelf.put_file("t.csv", b"v\n1\n5\n12\n")?;
@@ -1026,9 +1027,11 @@ fn put_fails(
     let words = run_words(alloc, "a.scr")?;
     let status = scr(alloc, words.as_slice(), &mut shelf, &mut sink);
     let taken = sink.taken();
-    Ok(status == Status::WriteFault
-        && taken.len() == written
-        && report.as_bytes().starts_with(taken))
+    Ok(
+        status == Status::WriteFault
+            && taken.len() == written
+            && report.as_bytes().starts_with(taken),
+    )
 }
 
 #[test]
